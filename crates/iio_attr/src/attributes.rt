@@ -20,22 +20,22 @@ pub enum Scope {
     Buffer,
 }
 
-/// An attribute. The names are those of the kernel's sysfs-bus-iio, but `Overruns`, `Discarded` and `Underruns`.
+/// An attribute. The names are those of the kernel's sysfs-bus-iio, except for `Overruns`, `Discarded` and `Underruns`.
 #[derive(Clone, Copy, Debug, PartialEq, Eq)]
 pub enum Attr {
     /// The device's name.
     Name,
-    /// How often the device samples, stored alone.
+    /// How often the device samples; only stored.
     SamplingFrequency,
     /// A sample of the channel.
     Raw,
     /// What the sensor adds to each sample.
     Calibbias,
-    /// What a sample is to be multiplied by, stored alone.
+    /// What a sample is to be multiplied by; only stored.
     Scale,
-    /// What is to be added to a sample first, stored alone.
+    /// What is to be added to a sample first; only stored.
     Offset,
-    /// What the sensor multiplies by, stored alone.
+    /// What the sensor multiplies by; only stored.
     Calibscale,
     /// The threshold of rising values.
     ThreshRisingValue,
@@ -68,7 +68,7 @@ enum Access {
     Switch,
 }
 
-/// An attribute, where it stands, its name, and what may be written to it.
+/// An attribute, its scope, its name, and what may be written to it.
 #[derive(Clone, Copy)]
 struct Row(Attr, Scope, &'static [u8], Access);
 
@@ -138,7 +138,7 @@ fn access_of(attr: Attr) -> Access
     TABLE[attr as usize].3
 }
 
-/// The attribute of that name in that scope. None exactly where the scope has none.
+/// The attribute of that name in that scope. Returns `None` exactly if the scope has none.
 pub fn find(scope: Scope, name: &[u8]) -> Option<Attr>
     ensures { result ≡ find_of scope name.now }
 {
@@ -152,8 +152,7 @@ pub fn writable(attr: Attr) -> bool
     access_of(attr) != Access::ReadOnly
 }
 
-/// The value that a device or a channel has before any was written. None for an attribute that can't
-/// be written.
+/// The value that a device or a channel has before any was written. Returns `None` for an attribute that can't be written.
 pub fn first_value(attr: Attr) -> Option<Fixed>
     ensures value { result ≡ first_value attr }
     ensures sound { IfSome result IsFixed }
@@ -171,7 +170,7 @@ pub fn first_value(attr: Attr) -> Option<Fixed>
     })
 }
 
-// 0 or 1, else `EINVAL`.
+// The value if it is 0 or 1, otherwise `EINVAL`.
 fn switched(value: Fixed) -> Result<Fixed, Errno>
     ensures { result ≡ switched (Ok value) }
 {
@@ -181,9 +180,8 @@ fn switched(value: Fixed) -> Result<Fixed, Errno>
     Ok(value)
 }
 
-/// The value that a text writes to the attribute. `EACCES` comes where nothing may be written to it,
-/// then `EINVAL` and `ERANGE` as from [`read_fixed`], last `EINVAL` where a switch is to be neither 0
-/// nor 1.
+/// Returns the value that a text writes to the attribute. `EACCES` if nothing may be written to it, then `EINVAL` and `ERANGE`
+/// as from [`read_fixed`], last `EINVAL` if a switch is to be neither 0 nor 1.
 pub fn check(attr: Attr, text: &[u8]) -> Result<Fixed, Errno>
     ensures value { result ≡ check_of attr text.now }
     ensures sound { IfOk result IsFixed }

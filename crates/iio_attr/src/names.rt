@@ -56,7 +56,7 @@ fn is_name(text: &[u8]) -> bool
 }
 
 impl Name {
-    /// The name that a text is. None exactly where it hasn't the form of a name.
+    /// Makes a name of a text. Returns `None` exactly if the text hasn't the form of a name.
     pub fn new(text: &[u8]) -> Option<Name>
         ensures { result ≡ name_of text.now }
     {
@@ -71,7 +71,7 @@ impl Name {
         })
     }
 
-    /// The same name once more.
+    /// Returns an equal name.
     pub fn copy(&self) -> Name
         ensures { result ≡ self.now }
     {
@@ -90,7 +90,7 @@ impl Name {
         &self.buffer[..self.len]
     }
 
-    /// The bytes of the name, and after them others, of which nothing is said: always 32 bytes, so that they are cheap to copy.
+    /// The bytes of the name, followed by unspecified ones: always 32 bytes, so that they are cheap to copy.
     #[inline(always)]
     pub fn padded(&self) -> &[u8]
         ensures bytes { take (length self.now) result.now ≡ self.now }
@@ -100,7 +100,7 @@ impl Name {
         &self.buffer
     }
 
-    /// Whether these are the bytes of the name. Most names of one length differ in their last byte, so it is looked at first.
+    /// Whether these are the bytes of the name. Most names of one length differ in their last byte, so it is compared first.
     #[inline(always)]
     pub fn is(&self, bytes: &[u8]) -> bool
         ensures { result ≡ bytes_eq self.now bytes.now }
@@ -109,7 +109,7 @@ impl Name {
         own.last() == bytes.last() && is_word(own, bytes)
     }
 
-    /// Whether both are one name.
+    /// Whether the two names are equal.
     pub fn same(&self, other: &Name) -> bool
         ensures { IsTrue result ↔ (self.now ≡ other.now) }
     {

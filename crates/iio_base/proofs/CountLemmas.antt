@@ -1,4 +1,4 @@
--- Counts that stay at a bound, and sums that go round.
+-- Counts that stay at a bound, and sums that wrap.
 use Rattle.std.proofs.Common.{◌≡◌, ℕ, ◌+◌, ◌≤◌, ◌%◌, min, sym, ◌∙◌, arith}
 use Rattle.std.proofs.lemmas.Bool.Decides.{nat_tests}
 

@@ -1,4 +1,4 @@
--- Counts of faults. An outside object, as a source of bytes, counts its own failures. The count never
+-- Counts of faults. An outside object, such as a source of bytes, counts its own failures. The count never
 -- falls, so that it rose within a call shows that the object failed in that call. (This project's own.)
 use Rattle.std.specs.Prelude.{ℕ, ◌<◌}
 

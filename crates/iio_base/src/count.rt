@@ -1,6 +1,6 @@
 //! Counts that don't stop at a type's end.
 //!
-//! A count is a `u64` up to that type's end. Past it, which no run reaches, it goes on in the proof alone: so what is said
+//! A count is a `u64` up to that type's end. Past it, which no run reaches, it goes on in the proof alone, so that what is said
 //! of it holds without a bound on how often it rises.
 
 ghost use Rattle.std.specs.Prelude.{◌≡◌, ℕ, ◌+◌, ◌-◌, ◌^◌, min};
@@ -35,7 +35,7 @@ impl Beyond {
     {}
 }
 
-/// How often something was.
+/// A count of how often something happened.
 #[derive(Drop)]
 pub struct Count {
     seen: u64,
@@ -53,7 +53,7 @@ impl Model for Count {
 }
 
 impl Count {
-    /// None yet.
+    /// A count of 0.
     pub fn new() -> Count
         ensures { result ≡ 0 }
     {
@@ -63,7 +63,7 @@ impl Count {
         }
     }
 
-    /// One more.
+    /// Adds one.
     pub fn rise(&mut self)
         ensures { self.new ≡ self.old + 1 }
     {
@@ -74,7 +74,7 @@ impl Count {
         }
     }
 
-    /// The count, which stays at 2^64 - 1 when it gets there.
+    /// The count, but at most 2^64 - 1.
     pub fn get(&self) -> u64
         ensures { result ≡ min self.now (2 ^ 64 - 1) }
     {

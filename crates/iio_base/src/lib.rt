@@ -1,4 +1,4 @@
-//! What every crate of the workspace stands on: want of memory, counts and sums without an end, and the words on counts of
+//! What every crate of the workspace builds on: lack of memory, counts and sums without an end, and definitions on counts of
 //! faults.
 #![tactic(auto)]
 
@@ -14,7 +14,7 @@ use std::error::Error;
 use std::fmt;
 pub use sum::Sum;
 
-/// Want of memory. It is the one answer that no argument explains: no clause says when it comes.
+/// Lack of memory. It is the one result that no argument explains: no clause says when it is returned.
 #[derive(Clone, Copy, Debug, PartialEq, Eq, Hash)]
 pub struct Mem;
 

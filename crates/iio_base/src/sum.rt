@@ -8,7 +8,7 @@ use std::marker::Model;
 /// A sum of numbers.
 #[derive(Drop)]
 pub struct Sum {
-    // The sum modulo 2^64, and how often it went round.
+    // The sum modulo 2^64, and how often it wrapped.
     low: u64,
     rounds: Count,
 }
@@ -22,7 +22,7 @@ impl Model for Sum {
 }
 
 impl Sum {
-    /// Nothing yet.
+    /// A sum of 0.
     pub fn new() -> Sum
         ensures { result ≡ 0 }
     {
@@ -44,7 +44,7 @@ impl Sum {
         }
     }
 
-    /// The sum, which stays at 2^64 - 1 when it gets there.
+    /// The sum, but at most 2^64 - 1.
     pub fn get(&self) -> u64
         ensures { result ≡ min self.now (2 ^ 64 - 1) }
     {

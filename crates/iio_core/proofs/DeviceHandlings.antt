@@ -1,4 +1,4 @@
--- The handling of an entry in both views of a device, and the ends of queues that are there.
+-- The handling of an entry in both views of a device, and the kinds of queue ends that there are.
 use Rattle.std.proofs.Common.{◌≡◌, ℕ, zero, suc, ◌+◌, ◌-◌, ◌^◌, ◌≤◌, Bool, true, false, List, [], ◌∷◌, ◌++◌, map, drop, length, Option, Some, None, slice_get, refl, sym, ap, ◌∙◌, arith, cond}
 use Rattle.std.specs.Prelude.{◌==◌, ◌&&◌, not, nat_lt, ℤ}
 use Rattle.std.specs.List.{AllZip}
@@ -118,7 +118,7 @@ module _ {Q : Type 0} (taken lost size capacity : Q → ℕ) (offer_gives : Q �
   met_empty shape c (x ∷ xs) [] z = absurd z
   met_empty shape c (x ∷ xs) (y ∷ ys) z = refl
 
-  -- an entry of the device is due where it is current
+  -- an entry of the device is due exactly if it is current
   current_is : (e : Handed) (d : DeviceView Q) (members : List Member) → e.dev ≡ d.number → (d.standing.captures == 2 ^ 64 - 1) ≡ false
       → is_empty members ≡ is_empty d.standing.members
       → is_current e.attachment d.site.attachment members d.site.plugged ≡ is_due e d
@@ -218,7 +218,7 @@ module _ {Q : Type 0} (taken lost size capacity : Q → ℕ) (offer_gives : Q �
             ∙ ap (λ (st : Station). Some st) is.1,
       )
 
--- ---- queues in one hand
+-- ---- queues of one owner
 
 pub queues_are_met : (old new : Queue) (scan : List ℕ) (answer : Offered) → QueueOffers old scan answer new
     → IsMet (λ (q : Queue). q.lost) (λ q. q.capacity) queue_waits queue_waited scan answer old new

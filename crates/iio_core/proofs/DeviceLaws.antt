@@ -1,4 +1,4 @@
--- Each call of a device in both views, but for the handling of an entry.
+-- Each call of a device in both views, except the handling of an entry.
 use Rattle.std.proofs.Common.{◌≡◌, ℕ, zero, suc, ◌+◌, ◌-◌, ◌^◌, Bool, true, false, List, [], ◌∷◌, ◌++◌, map, filter, Option, Some, None, slice_get, option_map, unwrap_or, Result, Ok, Err, refl, sym, ap, ◌∙◌, arith, cond}
 use Rattle.std.specs.Prelude.{◌==◌, ◌&&◌, ◌||◌, not, nat_lt, find, is_none, option_and_then, ℤ}
 use Rattle.std.proofs.lemmas.Bool.Decides.{nat_tests}
@@ -61,7 +61,7 @@ pub station_here : (m : Machine) (dev : ℕ) (st : Station) → slice_get m.stat
 unfolding station_at
 station_here m dev st e = ap (λ (o : Option Station). unwrap_or o no_station) e
 
--- a machine whose devices each change by its number
+-- a machine in which each device changes by its number
 pub at_joined : (front : Front) (m : Machine) (dev : ℕ) (st : Station) (change : Station → Station) → slice_get m.stations dev ≡ Some st
     → slice_get (all_joined front dev change m).stations dev ≡ Some (change st)
 at_joined front m dev st change here =
@@ -70,7 +70,7 @@ at_joined front m dev st change here =
     ∙ ap (λ (o : Option Station). option_map (λ (x : Station). cond (dev == dev) (change x) (with_inner front dev dev x)) o) here
     ∙ ap (λ (b : Bool). Some (cond b (change st) (with_inner front dev dev st))) own
 
--- the leaving of a member of an input device moves no inner member
+-- when a member of an input device leaves, no inner member leaves with it
 at_left : (front : Front) (m : Machine) (dev : ℕ) → kind_at front dev ≡ Input → slice_get (inner_left front dev m).stations dev ≡ slice_get m.stations dev
 at_left front m dev input = get_first (λ k x. without_inner front m dev k x) m.stations dev ∙ by (slice_get m.stations dev)
   where
@@ -254,7 +254,7 @@ filter_none p (x ∷ xs) e = by (p x) e (filter_none p xs)
     by true e h = absurd (cc)
     by false e h = ap (λ ys. x ∷ ys) (h e)
 
--- the errno of a fault of joining, where the mask is a good one
+-- the errno of a fault of joining, if the mask is a good one
 pub agree : (gone a b c : Bool) (r : Option JoinFault) → first_refusal ((gone, fault.Gone) ∷ (false, fault.BadMask) ∷ member_faults a b c) ≡ r
     → first_refusal ((gone, ENODEV) ∷ join_refusals a b c) ≡ option_and_then errno_of r
 agree true a b c r e = ap (λ (o : Option JoinFault). option_and_then errno_of o) e
@@ -273,7 +273,7 @@ module _ {Q : Type 0} (lost capacity : Q → ℕ) (waits : Q → List (List ℕ)
   pub without_is : (n : ℕ) (ms : List (Membership Q)) → without n (map member ms) ≡ map member (without_of n ms)
   without_is n ms = filter_map_is member (λ (m : Membership Q). not (m.number == n)) (λ (x : Member). not (is_seat_of n x)) ms (λ m. refl)
 
-  -- what was lost of the member of that number
+  -- what the member of that number lost
   pub lost_told : (n : ℕ) (ms : List (Membership Q))
       → lost_by n (map member ms) ≡ option_map lost (option_map (λ (m : Membership Q). m.tail) (membership_of n ms))
   lost_told n [] = refl
@@ -373,7 +373,7 @@ module _ {Q : Type 0} (lost capacity : Q → ℕ) (waits : Q → List (List ℕ)
       (agree (not d.site.plugged) (is_none d.site.trigger) (is_without_union d.standing.shape (masks_of d.standing.members) mask) (is_full_view d (Some s)) r
       same)
 
-  -- the device with a member more
+  -- the device with another member
   pub joined_is : (mask : Mask) (tail : Q) (d : DeviceView Q) → IsNewEnd lost waits tail
       → station_after_join mask.bits (capacity tail) false None (station d) ≡ station (device_joined mask tail d)
   joined_is mask tail d fresh = rw (map-append member d.standing.members, fresh.none, fresh.unlost, empty_map member d.standing.members) refl
@@ -455,7 +455,7 @@ module _ {Q : Type 0} (lost capacity : Q → ℕ) (waits : Q → List (List ℕ)
   more_members [] m = refl
   more_members (x ∷ ms) m = refl
 
-  -- where it held a place exactly while it had a member
+  -- if it held a place exactly while it had a member
   join_placed : (b : Bool) (n a : ℕ) (s : State) → holds_place n s.attached ≡ not b
       → holds_place n (cond b (record s { attached = with_place n a s.attached }) s).attached ≡ true
   join_placed true n a s h = placed_more n a s.attached

@@ -26,7 +26,7 @@ use Rattle.iio_core.specs.Devices.{IsAt, IsRefused, IsRemasked}
 use Rattle.iio_core.specs.DeviceLaw.{IsNewEnd, IsPlaced, IsSeatAt}
 use Rattle.iio_core.proofs.DeviceLaws.{at_changed, empty_map, lost_told, masks_are, member, station, station_here, without_is}
 
--- the errno of a fault of another mask, where the mask is a good one
+-- the errno of a fault of an exchange of a mask, if the mask is a good one
 agree : (gone dead without_union : Bool) (r : Option RemaskFault)
     → first_refusal ((gone, fault.Gone) ∷ (dead, fault.NotLive) ∷ (false, fault.BadMask) ∷ (without_union, fault.NoUnion) ∷ []) ≡ r
     → first_refusal ((gone, ENODEV) ∷ (dead, EBADF) ∷ (without_union, EINVAL) ∷ []) ≡ option_and_then remask_errno r
@@ -35,7 +35,7 @@ agree false true u r e = ap (λ (o : Option RemaskFault). option_and_then remask
 agree false false true r e = ap (λ (o : Option RemaskFault). option_and_then remask_errno o) e
 agree false false false r e = ap (λ (o : Option RemaskFault). option_and_then remask_errno o) e
 
--- a member is live where one of its number is found
+-- a member is live if one of its number is found
 live_found : {Q : Type 0} (n : ℕ) (ms : List (Membership Q)) → is_none (membership_of n ms) ≡ not (is_live n ms)
 live_found n [] = refl
 live_found n (m ∷ ms) = by (m.number == n) (live_found n ms)
@@ -74,7 +74,7 @@ module _ {Q : Type 0} (lost capacity : Q → ℕ) (waits : Q → List (List ℕ)
       by true knows h = let own : (m.mask.bits == id.mask) ≡ true = grind (arith, knows, nat_tests) in rw own refl
       by false knows h = h knows
 
-  -- the members, of whom that of the number began anew
+  -- the members after that of the number began anew
   members_are : (n : ℕ) (mask : Mask) (captures : ℕ) (tail : Q) (ms : List (Membership Q)) → IsNewEnd lost waits tail
       → map (with_mask n mask.bits (capacity tail)) (map told ms) ≡ map told (remasked_members n mask captures tail ms)
   members_are n mask captures tail [] fresh = refl
@@ -87,7 +87,7 @@ module _ {Q : Type 0} (lost capacity : Q → ℕ) (waits : Q → List (List ℕ)
       by true = rw (fresh.none, fresh.unlost) refl
       by false = refl
 
-  -- the device after it
+  -- the device after the exchange
   pub remasked_is : (id : MemberId) (mask : Mask) (tail before : Q) (d d' : DeviceView Q) → RemasksDevice lost id.number mask tail (Ok before) d d'
       → IsNewEnd lost waits tail
       → station_after_remask id.number mask.bits (capacity tail) (seen d) ≡ seen d'

@@ -1,4 +1,4 @@
--- Lists that a map with places changes at one place, or nowhere.
+-- Lists that a map over places changes at one place, or nowhere.
 use Rattle.std.proofs.Common.{◌≡◌, ℕ, zero, suc, ◌+◌, ◌<◌, ◌≤◌, ◌==◌, ◌||◌, Bool, true, false, List, [], ◌∷◌, ◌++◌, map, Some, option_map, slice_get, min, take, drop, length, cond, inl, inr, refl, sym, ap, ◌∙◌, arith}
 use Rattle.std.proofs.lemmas.Bool.{cases_lt}
 use Rattle.std.proofs.lemmas.Bool.Decides.{nat_tests}
@@ -12,7 +12,7 @@ itself n = grind (arith, nat_tests)
 pub same_number : (i j : ℕ) → (i == j) ≡ true → i ≡ j
 same_number i j h = grind (arith, nat_tests)
 
--- ---- maps with places
+-- ---- maps over places
 
 kept_behind : {A B : Type 0} (v : A → B) (f : ℕ → A → A) (k i : ℕ) (xs : List A) → ((j : ℕ) (x : A) → (k == j) ≡ false → v (f j x) ≡ v x) → k < i
     → map v (map_from f i xs) ≡ map v xs
@@ -75,7 +75,7 @@ each_from v f g i (x ∷ xs) each =
     (each_from v f g (suc i) xs
     (λ j y at. let place : suc j + i ≡ j + suc i = omega arith in ap (λ (n : ℕ). v (f n y)) (sym place) ∙ each (suc j) y at ∙ ap (λ (n : ℕ). g n (v y)) place))
 
--- what stands at a place afterwards
+-- the element at a place afterwards
 pub get_from : {A B : Type 0} (f : ℕ → A → B) (i : ℕ) (xs : List A) (k : ℕ) → slice_get (map_from f i xs) k ≡ option_map (f (k + i)) (slice_get xs k)
 get_from f i [] k = refl
 get_from f i (x ∷ xs) zero = let here : i ≡ 0 + i = omega arith in ap (λ (n : ℕ). Some (f n x)) here

@@ -1,4 +1,4 @@
--- What the calls of an `Iio` answer over a told state, and what stands then.
+-- What the calls of an `Iio` answer in a told state, and the state afterwards.
 use Rattle.std.specs.Prelude.{ℕ, ℤ, ◌+◌, ◌-◌, ◌*◌, ◌^◌, ◌==◌, ◌&&◌, ◌||◌, not, Bool, true, false, ⊤, List, [], ◌∷◌, ◌++◌, map, filter, length, Option, Some, None, is_none, unwrap_or, slice_get, slice_index_or, pos, Result, Ok, Err, if◌then◌else◌, option_map}
 use Rattle.std.specs.Option.{option_map_or}
 use Rattle.iio_base.specs.Refusals.{ensure, ◌>>=◌, first_refusal, unless_refused}
@@ -28,35 +28,35 @@ use Rattle.iio_core.specs.Front.{Front, kind_at, shape_at, size_at, device_name}
 use Rattle.iio_core.specs.Machine.{Member, MemberId, Station, Machine, attachments_of, queue_of, station_at, with_station, with_site, lost_by, masks_of, member_in, is_id_of, is_seat_of, without}
 use Rattle.iio_core.specs.Opening.{Host, host_by, inner_host, join_refusals, own_host}
 
--- an answer, and what stands then
+-- an answer, and the state afterwards
 pub record CallResult (A : Type 0) : Type 0 where
   pub answer : Result A Errno
   pub machine : Machine
 
 module _ {A : Type 0} where
-  -- a call that changes a device, where it isn't refused
+  -- a call that changes one device, unless it is refused
   abbrev pub unless : (Station → Station) → ℕ → Machine → Result A Errno → CallResult A
   unless change dev m (Ok x) = record { answer = Ok x; machine = with_station change dev m }
   unless change dev m (Err e) = record { answer = Err e; machine = m }
 
--- ... or several of them
+-- a call that changes the state, unless it is refused
 abbrev pub unless_made : {A : Type 0} → (Machine → Machine) → Machine → Result A Errno → CallResult A
 unless_made change m (Ok x) = record { answer = Ok x; machine = change m }
 unless_made change m (Err e) = record { answer = Err e; machine = m }
 
 -- ---- members
 
--- where a new member of a device of a kind wants its place
+-- where a new member of a device of that kind needs its place
 abbrev pub host_of : Front → List Station → Kind → Station → ShapeRecord → ℕ → Host Station
 host_of front stations kind st shape mask =
     host_by kind (own_host st shape mask (masks_of st.members))
     (λ base. option_map (λ (b : Station). inner_host (is_empty st.members) b (shape_at front base)) (slice_get stations base))
 
--- whether a device's numbers of members end
+-- whether a device's member numbers have run out
 abbrev pub has_no_number : Station → Bool
 has_no_number st = st.next == 2 ^ 64 - 1
 
--- whether there is no place for one member more: the first one wants one at the trigger, and numbers end
+-- whether there is no place for another member: the first one needs a place at the trigger, and the numbers have an end
 abbrev pub is_full : Front → List Station → Host Station → Station → Bool
 is_full front stations host st =
     host.joins && is_empty host.device.members && has_no_place front (attachments_of stations) host.device.site.trigger || has_no_number st
@@ -72,7 +72,7 @@ open_refusals front stations kind host st =
 abbrev pub newcomer : ℕ → ℕ → Bool → Option ℕ → Station → Member
 newcomer mask capacity cyclic inner st = record { number = st.next; mask = mask; capacity = capacity; scans = []; lost = 0; cyclic = cyclic; inner = inner }
 
--- a device with a member more: the first one's joining is a new attachment
+-- a device after a joining: that of the first member is a new attachment
 abbrev pub station_after_join : ℕ → ℕ → Bool → Option ℕ → Station → Station
 station_after_join mask capacity cyclic inner st =
     record st { next = st.next + 1; members = st.members ++ newcomer mask capacity cyclic inner st ∷ []; site = attached (is_empty st.members) st.site }
@@ -81,11 +81,11 @@ station_after_join mask capacity cyclic inner st =
 abbrev pub is_inner_of : ℕ → Member → Bool
 is_inner_of j x = option_map_or (λ i. i == j) x.inner false
 
--- the base with the inner member of averaging device j, where it has none yet
+-- the base with the inner member of averaging device j, which is added if there is none yet
 abbrev pub inner_joined : ℕ → ShapeRecord → Station → Station
 inner_joined j shape b = if list_any (is_inner_of j) b.members then b else station_after_join (full_mask shape) 1 false (Some j) b
 
--- device k, where a member joined averaging device j over it
+-- device k after a member has joined averaging device j, which may be over it
 abbrev pub with_inner : Front → ℕ → ℕ → Station → Station
 with_inner front j k st = if is_over (kind_at front j) k && is_input (kind_at front k) then inner_joined j (shape_at front k) st else st
 
@@ -100,11 +100,11 @@ open_of front m dev mask capacity cyclic =
     (unless_refused (station_at m dev).next (first_refusal (open_refusals front m.stations (kind_at front dev)
     (host_of front m.stations (kind_at front dev) (station_at m dev) (shape_at front dev) mask) (station_at m dev))))
 
--- the captures that count towards the next mean end with the last member's leaving
+-- when the last member leaves, no captures count towards the next mean any more
 abbrev pub window_left : (before after : List Member) → Window → Window
 window_left before after w = if not (is_empty before) && is_empty after then no_window else w
 
--- a device with the member of that number less; what it lost is counted
+-- a device without the member of that number; what it lost is counted
 abbrev pub station_after_leave : ℕ → Station → Station
 station_after_leave number st =
     record st {
@@ -123,7 +123,7 @@ abbrev pub inner_gone : ℕ → Station → Station
 inner_gone j b = let members = filter (λ (x : Member). not (is_inner_of j x)) b.members in
     record b { totals = with_inner_lost j b.members b.totals; members = members; window = window_left b.members members b.window }
 
--- device k, where nobody is at averaging device j over it
+-- device k without the inner member of averaging device j, if that is over it and has no member
 abbrev pub without_inner : Front → Machine → ℕ → ℕ → Station → Station
 without_inner front m j k st = if is_over (kind_at front j) k && is_input (kind_at front k) && is_empty (station_at m j).members then inner_gone j st else st
 
@@ -134,7 +134,7 @@ inner_left front dev m = record m { stations = map_from (without_inner front m d
 unfoldable pub machine_after_close : Front → Machine → ℕ → ℕ → Machine
 machine_after_close front m dev number = inner_left front dev (with_station (station_after_leave number) dev m)
 
--- why a member can't have another mask, in this order; the others' masks stay
+-- why a member can't get another mask, in this order; the others keep their masks
 abbrev pub remask_refusals : ShapeRecord → Station → MemberId → ℕ → List (Bool × Errno)
 remask_refusals shape st id mask =
     (not st.site.plugged, ENODEV)
@@ -142,16 +142,16 @@ remask_refusals shape st id mask =
     ∷ (is_without_union shape (masks_of (without id.number st.members)) mask, EINVAL)
     ∷ []
 
--- the member of that number under another mask: a queue for `capacity` scans begins anew, and the others stay
+-- the member of that number with another mask: it begins anew, with a queue for `capacity` scans, and the others stay
 abbrev pub with_mask : (number mask capacity : ℕ) → Member → Member
 with_mask number mask capacity x = if is_seat_of number x then record x { mask = mask; capacity = capacity; scans = []; lost = 0 } else x
 
--- a device with it; what its old queue lost is counted
+-- a device with that member; what its old queue lost is counted
 abbrev pub station_after_remask : (number mask capacity : ℕ) → Station → Station
 station_after_remask number mask capacity st =
     record st { totals = with_left (lost_by number st.members) st.totals; members = map (with_mask number mask capacity) st.members }
 
--- `remask`: how many scans waited
+-- `remask`: the answer is how many scans waited
 unfoldable pub remask_of : Front → Machine → ℕ → MemberId → (mask capacity : ℕ) → CallResult ℕ
 remask_of front m dev id mask capacity =
     unless (station_after_remask id.number mask capacity) dev m
@@ -163,7 +163,7 @@ remask_of front m dev id mask capacity =
 abbrev pub writes : MemberId → List (List ℕ) → Member → Member
 writes id scans x = if is_id_of id x then record x { scans = x.scans ++ taken_of x.cyclic x.capacity x.scans scans } else x
 
--- why a payload of that size isn't taken, in this order
+-- why a payload isn't taken, in this order
 abbrev pub write_refusals : Member → (size : ℕ) → List ℕ → List (Bool × Errno)
 write_refusals x size bytes =
     (is_bad_size x.cyclic x.capacity size (length bytes), EINVAL)
@@ -171,11 +171,11 @@ write_refusals x size bytes =
     ∷ (is_full_of x.cyclic x.capacity x.scans (scans_of size bytes), EAGAIN)
     ∷ []
 
--- how many bytes of it are taken
+-- how many bytes of the payload are taken
 abbrev pub bytes_taken : Member → (size : ℕ) → List ℕ → ℕ
 bytes_taken x size bytes = size * length (taken_of x.cyclic x.capacity x.scans (scans_of size bytes))
 
--- in the place of a member that isn't there
+-- stands for a member that isn't there
 abbrev pub no_member : Member
 no_member = record { number = 0; mask = 0; capacity = 0; scans = []; lost = 0; cyclic = false; inner = None }
 
@@ -185,7 +185,7 @@ write_scans_at st id size bytes = do
   unless_refused (bytes_taken (unwrap_or (member_in id st.members) no_member) size bytes)
       (first_refusal (write_refusals (unwrap_or (member_in id st.members) no_member) size bytes))
 
--- `write_scans`: the number of bytes that are taken
+-- `write_scans`: the answer is the number of bytes that are taken
 unfoldable pub write_scans_of : Front → Machine → ℕ → MemberId → List ℕ → CallResult ℕ
 write_scans_of front m dev id bytes =
     unless (λ st. record st { members = map (writes id (scans_of (size_at front dev id.mask) bytes)) st.members }) dev m
@@ -197,14 +197,14 @@ abbrev pub is_raw : Option ℕ → Attr → Bool
 is_raw (Some c) attr.Raw = true
 is_raw channel a = false
 
--- `raw` asks the sensor, where the device has no member
+-- `raw` of an input device: the sensor is asked if the device has no member
 abbrev pub raw_answer : ShapeRecord → ℤ → ℕ → Station → Result Value Errno
 raw_answer shape clock c st = do
   free ← ensure (is_empty st.members) EBUSY
   answered ← ensure (not (ask_fails st.site.driver)) EIO
   Ok (Int (value_of st.site.driver shape clock c 0))
 
--- ... and of an output device it is the last one that it was given
+-- `raw` at a device of that kind; of an output device it is the value that was given last
 abbrev pub raw_by : Kind → ShapeRecord → ℤ → ℕ → Station → Result Value Errno
 raw_by Output shape clock c st = Ok (Int (slice_index_or st.last c (pos 0)))
 raw_by kind shape clock c st = raw_answer shape clock c st
@@ -222,7 +222,7 @@ read_answer name kind shape clock channel a st = do
 abbrev pub is_asking : Kind → Option ℕ → Attr → Station → Bool
 is_asking kind channel a st = is_raw channel a && st.site.plugged && is_empty st.members && is_input kind
 
--- `read_attr`: the sensor is asked also where its ask fails
+-- `read_attr`: an ask of the sensor counts even if it fails
 unfoldable pub read_attr_of : Front → Machine → ℕ → Option ℕ → Attr → CallResult Value
 read_attr_of front m dev channel a = record {
   answer = read_answer (device_name front dev) (kind_at front dev) (shape_at front dev) m.clock channel a (station_at m dev);
@@ -235,7 +235,7 @@ write_attr_of m dev channel a v = unless (with_site (site_written channel a v)) 
 
 -- ---- triggers
 
--- the trigger of a device; of an averaging device it is its base's
+-- the trigger of a device; that of an averaging device is its base's
 abbrev pub trigger_by : Kind → Machine → ℕ → Option ℕ
 trigger_by (Average base window) m dev = (station_at m base).site.trigger
 trigger_by kind m dev = (station_at m dev).site.trigger
@@ -252,7 +252,7 @@ trigger_answer st = do
 unfoldable pub set_trigger_of : Machine → ℕ → Option ℕ → CallResult ⊤
 set_trigger_of m dev trigger = unless (with_site (λ site. record site { trigger = trigger })) dev m (trigger_answer (station_at m dev))
 
--- ---- events. A holder is known by the number of its connection
+-- ---- events. A holder is identified by the number of its connection
 
 abbrev pub holds_events : ℕ → Station → Bool
 holds_events who st = is_holder (λ a b. a == b) who st.site.monitor
@@ -272,11 +272,11 @@ ev_read_answer who st = do
   holder ← ensure (holds_events who st) EBADF
   Ok (slice_get st.site.monitor.events 0)
 
--- `ev_read`: the oldest event, where there is one
+-- `ev_read`: the answer is the oldest event, if there is one
 unfoldable pub ev_read_of : Machine → ℕ → ℕ → CallResult (Option EventData)
 ev_read_of m dev who = unless (with_site (with_monitor (after_read (λ a b. a == b) who))) dev m (ev_read_answer who (station_at m dev))
 
--- `ev_close`: it ends a holding also at a device that is unplugged
+-- `ev_close`: it ends a holding even if the device is unplugged
 unfoldable pub ev_close_of : Machine → ℕ → ℕ → CallResult ⊤
 ev_close_of m dev who =
     unless (with_site (with_monitor (after_close (λ a b. a == b) who))) dev m (ensure (holds_events who (station_at m dev)) EBADF)

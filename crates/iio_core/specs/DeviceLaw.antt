@@ -1,4 +1,4 @@
--- The law that joins each call of an input device, over any queue's end, to the device that the plain state gives.
+-- The law that each call of an input device, over any kind of queue's end, makes of the device what the plain state says.
 use Rattle.std.specs.Prelude.{◌≡◌, ℕ, ℤ, ◌-◌, ◌^◌, ◌≤◌, ◌==◌, true, false, List, [], length, slice_get, Option, Some, IfSome, option_map, Result, Ok}
 use Rattle.iio_text.specs.declared.values.Fixed.{Fixed}
 use Rattle.iio_attr.specs.declared.attributes.Attr.{Attr}
@@ -32,17 +32,17 @@ use Rattle.iio_core.specs.Devices.{AreMet, Does, IsAt, IsJoined, IsMet, IsRemask
 module _ {Q : Type 0} where
   -- ---- members
 
-  -- a new end has nothing
+  -- a new end has no scans, and has lost none
   pub record IsNewEnd (lost : Q → ℕ) (waits : Q → List (List ℕ)) (tail : Q) : Type 0 where
     pub none : waits tail ≡ []
     pub unlost : lost tail ≡ 0
 
-  -- a device without a member finds a place at its trigger exactly where the plain state has one
+  -- a device without a member finds a place at its trigger exactly if the plain state has one
   abbrev pub SamePlaces : Front → Machine → DeviceView Q → State → Type 0
   SamePlaces front m d trigger =
       is_empty d.standing.members ≡ true → lacks_place d.number trigger ≡ has_no_place front (attachments_of m.stations) d.site.trigger
 
-  -- a join is an OPEN's: the same number or the same errno, and the same device
+  -- a join agrees with an OPEN: it has the same number or the same errno, and leaves the same device
   abbrev pub JoinsAgree : (lost capacity : Q → ℕ) → Type 0
   JoinsAgree lost capacity =
       (waits : Q → List (List ℕ)) (front : Front) (m : Machine) (dev : ℕ) (mask : Mask) (tail : Q) (r : Result MemberNumber (JoinRefused Q))
@@ -52,7 +52,7 @@ module _ {Q : Type 0} where
       → is_bad_mask old.standing.shape mask.bits ≡ false → SamePlaces front m old trigger → IsNewEnd lost waits tail
       → IsJoined lost capacity waits (open_of front m dev mask.bits (capacity tail) false) m r dev new
 
-  -- a leave is a CLOSE's
+  -- a leave agrees with a CLOSE
   abbrev pub LeavesAgree : (lost capacity : Q → ℕ) → Type 0
   LeavesAgree lost capacity =
       (waits : Q → List (List ℕ)) (front : Front) (m : Machine) (dev number : ℕ) (r : Option Q) (old new : DeviceView Q) (trigger trigger' : State)
@@ -60,11 +60,12 @@ module _ {Q : Type 0} where
       → (option_map lost r ≡ lost_by number (station_of lost capacity waits old).members)
       × IsAt lost capacity waits (machine_after_close front m dev number) dev new
 
-  -- a seat's mask is that of the member of its number, where there is one
+  -- a seat's mask is that of the member of its number, if there is one
   abbrev pub IsSeatAt : MemberId → DeviceView Q → Type 0
   IsSeatAt id d = IfSome (member_of id.number d.standing.members) (λ (m : Membership Q). m.mask.bits ≡ id.mask)
 
-  -- an exchange of a mask is a REMASK's: the scans that waited or the same errno, and the same device
+  -- an exchange of a mask agrees with a REMASK: it has the same number of scans that waited or the same errno, and leaves the
+  -- same device
   abbrev pub RemasksAgree : (lost capacity : Q → ℕ) → Type 0
   RemasksAgree lost capacity =
       (waits : Q → List (List ℕ)) (front : Front) (m : Machine) (dev : ℕ) (id : MemberId) (mask : Mask) (tail : Q) (r : Result Q (RemaskRefused Q))
@@ -73,11 +74,11 @@ module _ {Q : Type 0} where
       → is_bad_mask old.standing.shape mask.bits ≡ false → IsSeatAt id old → IsNewEnd lost waits tail
       → IsRemasked lost capacity waits (remask_of front m dev id mask.bits (capacity tail)) m r dev new
 
-  -- a device holds a place at its trigger exactly while the plain state has it attached there
+  -- a device holds a place at its trigger exactly while it is attached there in the plain state
   abbrev pub IsPlaced : (lost capacity : Q → ℕ) → (Q → List (List ℕ)) → (trigger : ℕ) → DeviceView Q → State → Type 0
   IsPlaced lost capacity waits t d trigger = holds_place d.number trigger.attached ≡ is_attached t (attachment_of (station_of lost capacity waits d))
 
-  -- and so it stays
+  -- joins and leaves keep it so
   abbrev pub PlacesAgree : (lost capacity : Q → ℕ) → Type 0
   PlacesAgree lost capacity =
       (waits : Q → List (List ℕ)) (t number : ℕ) (mask : Mask) (tail : Q) (r : Result MemberNumber (JoinRefused Q)) (left : Option Q) (old new : DeviceView Q)
@@ -86,7 +87,7 @@ module _ {Q : Type 0} where
       → (JoinsDevice mask tail r old new trigger trigger' → IsPlaced lost capacity waits t new trigger')
       × (LeavesDevice lost number left old new trigger trigger' → IsPlaced lost capacity waits t new trigger')
 
-  -- an exchange of a mask leaves the trigger alone
+  -- an exchange of a mask keeps it so, and leaves the trigger alone
   abbrev pub RemasksStay : (lost capacity : Q → ℕ) → Type 0
   RemasksStay lost capacity =
       (waits : Q → List (List ℕ)) (t number : ℕ) (mask : Mask) (tail : Q) (r : Result Q (RemaskRefused Q)) (old new : DeviceView Q) (trigger : State)
@@ -94,7 +95,8 @@ module _ {Q : Type 0} where
 
   -- ---- captures
 
-  -- the handling of an entry of the device, where captures go on, over the device as it met it
+  -- the handling of an entry of the device agrees, if there may be another capture; the plain state is that of the device as
+  -- the handling met it
   abbrev pub HandlingsAgree : (taken lost size capacity : Q → ℕ) → (Q → List ℕ → Offered → Q → Type 0) → Type 0
   HandlingsAgree taken lost size capacity offer_gives =
       (waits : Q → List (List ℕ)) (waited : Q → Q → List (List ℕ)) (m : Machine) (dev : ℕ) (due : Handed) (r : Handled) (old new : DeviceView Q)
@@ -123,7 +125,7 @@ module _ {Q : Type 0} where
       → shape_at front dev ≡ d.standing.shape
       → Does lost capacity waits (read_attr_of front m dev (Some c) Raw) (raw_value (raw_answer c m.clock d)) dev (after_raw d)
 
-  -- any other attribute, of a plugged device
+  -- any other attribute is read at a plugged device
   abbrev pub ReadsAgree : (lost capacity : Q → ℕ) → Type 0
   ReadsAgree lost capacity =
       (waits : Q → List (List ℕ)) (front : Front) (m : Machine) (dev : ℕ) (channel : Option ℕ) (a : Attr) (d : DeviceView Q) → IsAt lost capacity waits m dev d
@@ -163,15 +165,15 @@ module _ {Q : Type 0} where
       → Does lost capacity waits (ev_close_of m dev who) (map_err holder_errno (close_answer (λ a b. a == b) who d.site.monitor)) dev
       (at_site (with_monitor (after_close (λ a b. a == b) who) d.site) d)
 
--- ---- the ends that are there
+-- ---- the kinds of ends that there are
 
--- a queue of one owner meets each offer as it stood
+-- a queue of one owner meets each offer with what it held
 abbrev pub QueuesAreMet : Type 0
 QueuesAreMet =
     (old new : Queue) (scan : List ℕ) (answer : Offered) → QueueOffers old scan answer new
     → IsMet (λ q. q.lost) (λ q. q.capacity) queue_waits queue_waited scan answer old new
 
--- and so the device that a handling met is the one that stood
+-- so the device that a handling met is the device before it
 abbrev pub QueuesStand : Type 0
 QueuesStand =
     (due : Handed) (r : Handled) (old new : DeviceView Queue)
@@ -180,7 +182,8 @@ QueuesStand =
     ≡ station_of (λ (q : Queue). q.lost) (λ q. q.capacity) queue_waits old)
     × AreMet (λ (q : Queue). q.lost) (λ q. q.capacity) queue_waits queue_waited QueueOffers r old new
 
--- a ring meets it as the offer's own look found it, which shows no more received than was accepted
+-- a ring meets an offer with what the offer's own look at the reader's count left, if that shows no more scans received than
+-- were accepted
 abbrev pub RingsAreMet : Type 0
 RingsAreMet =
     (old new : WriterEnd) (scan : List ℕ) (answer : Offered) → WriterOffers old scan answer new → new.knows.seen ≤ length (accepted old.knows.offers)

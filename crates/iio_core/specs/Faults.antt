@@ -1,4 +1,4 @@
--- What a device's faults are answered with. Want of memory has its own answer, which is no errno. (Which errno is the kernel's or
+-- The answers to a device's faults. That memory ran out has its own answer, which is no errno. (Which errno is the kernel's or
 -- libiio's, and which this project's own, is said in docs/FORMATS.md.)
 use Rattle.std.specs.Prelude.{ℤ, Option, Some, None, Result, Ok, Err}
 use Rattle.iio_text.specs.declared.errors.Errno.{Errno}
@@ -23,7 +23,7 @@ errno_of fault.NoUnion = Some EINVAL
 errno_of fault.NoPlace = Some ENOSPC
 errno_of fault.Mem = None
 
--- a fault of another mask
+-- a fault of an exchange of a mask
 abbrev pub remask_errno : RemaskFault → Option Errno
 remask_errno remask.Gone = Some ENODEV
 remask_errno remask.NotLive = Some EBADF
@@ -41,16 +41,16 @@ raw_errno raw.Fault = EIO
 abbrev pub held_errno : Held → Errno
 held_errno held = EBUSY
 
--- who asks is not their holder
+-- the connection that asks isn't their holder
 abbrev pub holder_errno : NotHolder → Errno
 holder_errno none = EBADF
 
--- an answer, its fault in other words
+-- an answer, with its fault translated
 abbrev pub map_err : {A E F : Type 0} → (E → F) → Result A E → Result A F
 map_err f (Ok x) = Ok x
 map_err f (Err e) = Err (f e)
 
--- a sample as the value of `raw`
+-- the answer to a read of `raw`, by that of a sample
 abbrev pub raw_value : Result ℤ RawFault → Result Value Errno
 raw_value (Ok v) = Ok (Int v)
 raw_value (Err f) = Err (raw_errno f)

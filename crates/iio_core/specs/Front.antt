@@ -13,7 +13,7 @@ pub record Front : Type 0 where
   pub triggers : List TriggerDesc
   pub devices : List DeviceHead
 
--- those of a description
+-- the front of a description
 abbrev pub first_front : Description → Front
 first_front desc = record { context = desc.context; triggers = desc.triggers; devices = heads_of desc }
 
@@ -31,7 +31,7 @@ device_name front dev = option_map_or (λ (d : DeviceHead). d.name) (slice_get f
 unfoldable pub trigger_name : Front → ℕ → List ℕ
 trigger_name front trigger = option_map_or (λ (t : TriggerDesc). t.name) (slice_get front.triggers trigger) []
 
--- how many devices the trigger of that number can serve at once
+-- the number of devices that the trigger of that number can serve at once
 abbrev pub place_count : Front → ℕ → ℕ
 place_count front trigger = option_map_or (λ (t : TriggerDesc). t.places) (slice_get front.triggers trigger) 0
 
@@ -41,10 +41,10 @@ shape_at front dev = option_map_or (λ (d : DeviceHead). d.shape) (slice_get fro
 unfoldable pub kind_at : Front → ℕ → Kind
 kind_at front dev = option_map_or (λ (d : DeviceHead). d.kind) (slice_get front.devices dev) Input
 
--- how many channels a device has, with the timestamp
+-- the number of channels of a device, with the timestamp
 abbrev pub channel_count : Front → ℕ → ℕ
 channel_count front dev = count_of (shape_at front dev)
 
--- the bytes of a scan of a device under a mask
+-- the size in bytes of a scan of a device under a mask
 abbrev pub size_at : Front → ℕ → ℕ → ℕ
 size_at front dev mask = scan_size (shape_at front dev) mask

@@ -1,7 +1,7 @@
--- What a poll, the handling of a trigger's entry, a look at the thresholds and an unplugging make of the state, and how they are
--- answered. (Kernel, driver-api/iio: a device is asked once for all of its buffers, and each gets the channels of its own mask; an
--- output device is given what its buffer has next. What a full queue and an empty one do, and that an entry of an earlier
--- attachment does nothing, is this project's own.)
+-- What a poll, the handling of a trigger's entry, a look at the thresholds and an unplugging make of the state, and how they
+-- are answered. (Kernel, driver-api/iio: a device is asked once for all of its buffers, and each gets the channels of its own
+-- mask; an output device is given what its buffer has next. What a full queue and an empty one do, and that an entry of an
+-- earlier attachment does nothing, are this project's own.)
 use Rattle.std.specs.Prelude.{ℕ, ◌+◌, ◌==◌, not, Bool, ℤ, nat_lt, List, [], ◌∷◌, ◌++◌, map, length, drop, Option, Some, None, option_map, if◌then◌else◌}
 use Rattle.iio_layout.specs.Scan.{scan_of}
 use Rattle.iio_layout.specs.Shape.{ShapeRecord}
@@ -34,7 +34,7 @@ pub record Capture : Type 0 where
   pub moment : ℤ
   pub values : List ℤ
 
--- whether an entry is current: then the sensor is asked, or the device is given its next scan
+-- whether an entry is current: if so, the sensor is asked, or the device is given its next scan
 abbrev pub is_due : Handed → Station → Bool
 is_due e st = is_current e.attachment st.site.attachment st.members st.site.plugged
 
@@ -45,8 +45,8 @@ abbrev pub emptied_of : Option ℕ → List (List ℕ) → List (List ℕ)
 emptied_of None scans = scans
 emptied_of (Some device) scans = drop 1 scans
 
--- a capture is offered to a member, laid out under its own mask: a full queue stays as it is, and the scan is lost and
--- counted
+-- a capture is offered to a member, laid out under its own mask; if the queue is full it stays as it is, and the scan is lost
+-- and counted
 abbrev pub offered_to : ShapeRecord → Capture → Member → Member
 offered_to shape c x =
     if nat_lt (length x.scans) x.capacity then record x { scans = emptied_of x.inner (x.scans ++ scan_of shape x.mask c.values c.moment ∷ []) }
@@ -65,7 +65,7 @@ handled_answer e st =
 
 -- ---- output devices
 
--- what it would be given next, under the mask of its one member
+-- what an output device would be given next, under the mask of its one member
 abbrev pub next_scan : ℕ → List (List ℕ) → Option GivenScan
 next_scan mask [] = None
 next_scan mask (scan ∷ scans) = Some (record { mask = mask; bytes = scan })
@@ -77,7 +77,7 @@ next_of (x ∷ xs) = next_scan x.mask x.scans
 abbrev pub gives : Member → Member
 gives x = record x { scans = after_given x.cyclic x.scans; lost = underruns_after x.scans x.lost }
 
--- it is to be given a scan
+-- an output device after it was to be given a scan
 abbrev pub station_after_giving : ShapeRecord → Station → Station
 station_after_giving shape st = record st { members = map gives st.members; last = last_with shape (next_of st.members) st.last }
 
@@ -91,7 +91,7 @@ gave_answer e st = if is_due e st then gave_by (next_of st.members) else gave.Id
 
 -- ---- the device whose entry is handled
 
--- where the entry is current
+-- the device after the handling of an entry that is current
 abbrev pub station_after_capture : Kind → ShapeRecord → ℤ → Station → Station
 station_after_capture Output shape moment st = station_after_giving shape st
 station_after_capture (Average base window) shape moment st = st
@@ -101,12 +101,12 @@ station_after_capture Input shape moment st =
     let c : Capture = record { moment = moment; values = values_of st.site.driver shape moment } in
     record (asked_once shape moment st) { captures = st.captures + 1; members = map (offered_to shape c) st.members; window = no_window })
 
--- the entry that it has, if any, is handled; one that isn't current is let go
+-- the device after the handling of the entry that it has, if any; one that isn't current changes nothing
 abbrev pub station_after_entry : Kind → ShapeRecord → Option Handed → Station → Station
 station_after_entry kind shape None st = st
 station_after_entry kind shape (Some e) st = if is_due e st then station_after_capture kind shape e.t st else st
 
--- how it is answered at a device of a kind; an averaging device has no entries
+-- the answer to a handling at a device of a kind; an averaging device has no entries
 abbrev pub kind_answer : Kind → Handed → Station → Became
 kind_answer Output e st = Gave (gave_answer e st)
 kind_answer Input e st = Asked (handled_answer e st)
@@ -115,7 +115,7 @@ kind_answer (Average base window) e st = Asked asked.Idle
 abbrev pub entry_answer : Kind → Option Handed → Station → Option Became
 entry_answer kind o st = option_map (λ (e : Handed). kind_answer kind e st) o
 
--- the capture that it makes
+-- the capture that the handling makes
 abbrev pub current_capture : Kind → ShapeRecord → ℤ → Station → Option Capture
 current_capture Input shape moment st =
     if ask_fails st.site.driver then None else Some (record { moment = moment; values = values_of st.site.driver shape moment })
@@ -127,7 +127,7 @@ capture_in kind shape (Some e) st = if is_due e st then current_capture kind sha
 
 -- ---- averaging devices
 
--- one with a capture more of its base: the last of so many makes a mean
+-- an averaging device that made this mean; and one after a capture of its base: the last of `size` captures makes a mean
 abbrev pub station_after_mean : ShapeRecord → Capture → Station → Station
 station_after_mean shape c st = record st { captures = st.captures + 1; members = map (offered_to shape c) st.members; window = no_window }
 
@@ -140,7 +140,7 @@ station_after_gathering size shape (Some c) st =
 
 -- ---- all devices, once the entry of device `dev` was handled
 
--- device j, where that made that capture, if any
+-- device j after that, if the handling made that capture, if any
 abbrev pub entry_at : Option Handed → Option Capture → (dev : ℕ) → Kind → ShapeRecord → (j : ℕ) → Station → Station
 entry_at o c dev (Average base window) shape j st = if dev == base then station_after_gathering window shape c st else st
 entry_at o c dev kind shape j st = if dev == j then station_after_entry kind shape o st else st
@@ -169,7 +169,7 @@ polled_answer trigger moment m =
 abbrev pub entry_in : (trigger dev : ℕ) → Machine → Option Handed
 entry_in trigger dev m = entry_of dev (entries_at m.triggers trigger)
 
--- ... is taken off, once it is handled
+-- the state without the entry that a device had at a trigger, which was handled
 abbrev pub taken_off : (trigger dev : ℕ) → Machine → Machine
 taken_off trigger dev m = with_trigger (trigger_after_handling dev) trigger m
 
@@ -197,7 +197,7 @@ kind_sensed kind shape moment st = sensed_answer shape moment st
 
 -- ---- unpluggings
 
--- device k, once device `dev` was unplugged: an averaging device goes with its base
+-- device k after device `dev` was unplugged: an averaging device goes with its base
 abbrev pub unplugs : Front → (dev k : ℕ) → Station → Station
 unplugs front dev k st = if is_unplugged_by (kind_at front k) dev k then with_site unplugged st else st
 

@@ -1,23 +1,23 @@
-//! What becomes of the entries that triggers have.
+//! What becomes of the entries of triggers.
 
 use iio_device::Handled;
 
 /// What became of a device's entry.
 #[derive(Clone, Copy, Debug, PartialEq, Eq, Hash)]
 pub enum Became {
-    /// At an input device.
+    /// The entry was an input device's.
     Asked(Handled),
-    /// At an output device.
+    /// The entry was an output device's.
     Gave(Gave),
 }
 
 /// What became of an output device's entry.
 #[derive(Clone, Copy, Debug, PartialEq, Eq, Hash)]
 pub enum Gave {
-    /// It was given a scan.
+    /// The device was given a scan.
     Given,
     /// No scan waited.
     Underrun,
-    /// The entry isn't current.
+    /// The entry wasn't current.
     Idle,
 }

@@ -1,5 +1,5 @@
-//! What stands at the devices, as plain data, and what a connection's calls and a trigger's entries make of it: definitions that
-//! sessions, the bench and the history cite.
+//! The state of the devices and triggers as plain data, and what a connection's calls and a trigger's entries make of it:
+//! definitions that sessions, the bench and the history cite.
 #![tactic(auto)]
 
 ghost use Rattle.iio_core.specs.DeviceLaw.{EventsAgree, HandlingsAgree, HoldingsAgree, JoinsAgree, LeavesAgree, LooksAgree, PlacesAgree, QueuesAreMet, QueuesStand, ReadsAgree, ReleasesAgree, RemasksAgree, RemasksStay, RingsAreMet, SamplesAgree, TriggersAgree, UnpluggingsAgree, WritesAgree};
@@ -11,8 +11,8 @@ pub use became::{Became, Gave};
 use iio_kfifo::Tail;
 pub use limits::MAX_SCANS;
 
-/// What each call of a device makes of its own view is what the plain state makes of the device, whatever ends of queues its
-/// members have.
+/// What each call of a device makes of the device's own view agrees with what the plain state makes of the device, for any kind
+/// of queue's end that its members have.
 pub fn device_law<Q: Tail>()
     ensures joins { JoinsAgree Q.lost Q.capacity }
     ensures leaves { LeavesAgree Q.lost Q.capacity }
@@ -31,7 +31,7 @@ pub fn device_law<Q: Tail>()
     ensures releases { ReleasesAgree Q.lost Q.capacity }
 {}
 
-/// The queues that are there meet an offer as a bounded queue does.
+/// The kinds of queues that there are treat an offer as a bounded queue does.
 pub fn queue_law()
     ensures queues { QueuesAreMet }
     ensures stand { QueuesStand }

@@ -1,4 +1,4 @@
 //! How much a connection may open.
 
-/// The most scans of a member's queue.
+/// The largest number of scans that a member's queue can hold.
 pub const MAX_SCANS: u32 = 65_536;

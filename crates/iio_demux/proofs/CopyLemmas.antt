@@ -8,15 +8,15 @@ use Rattle.iio_demux.proofs.MergeLemmas.{byte_at-cons}
 
 -- ---- where a byte lies
 
--- where a byte lies that an entry has
+-- where a byte lies that an entry covers
 pub covers_tells : (entry : Entry) (j : ℕ) → covers entry j ≡ true → (entry.to ≤ j) × (j < entry.to + entry.length)
 covers_tells entry j own = grind (arith, nat_tests)
 
--- an entry has the bytes from its place on
+-- an entry covers the bytes from its place to its end
 pub covers_within : (entry : Entry) (j : ℕ) → entry.to ≤ j → j < entry.to + entry.length → covers entry j ≡ true
 covers_within entry j after before = grind (arith, nat_tests)
 
--- none before it, and none after its end
+-- an entry covers no byte before its place, and none from its end on
 begins_after : (entry : Entry) (j : ℕ) → j < entry.to → covers entry j ≡ false
 begins_after entry j before = grind (arith, nat_tests)
 
@@ -50,7 +50,7 @@ order_within active_size buffer_size low (entry ∷ later) order =
 abbrev pub so_far : (written : List ℕ) (start : ℕ) → List Entry → (scan : List ℕ) → ℕ → ℕ
 so_far written start entries scan j = cond (nat_lt j start) (slice_index written j) (byte_at entries scan j)
 
--- an entry more was copied
+-- another entry was copied
 pub copied_more : (active_size buffer_size start end : ℕ) (entry : Entry) (later : List Entry) (scan old new : List ℕ) (j : ℕ)
     → AreInOrder active_size buffer_size start (entry ∷ later) → end ≡ entry.to + entry.length
     → (j < start → slice_index new j ≡ slice_index old j) → (start ≤ j → j < entry.to → slice_index new j ≡ 0)
@@ -73,7 +73,7 @@ copied_more active_size buffer_size start end entry later scan old new j order i
           ])
     ]
 
--- all were
+-- all entries were copied
 pub copied_all : (end : ℕ) (scan written : List ℕ) (j : ℕ) → (end ≤ j → slice_index written j ≡ 0) → slice_index written j ≡ so_far written end [] scan j
 copied_all end scan written j zero =
     elim (cases_lt j end) [ inl before ↦ rw (is_below j end before) refl | inr after ↦ rw (is_above j end after) (zero after) ]

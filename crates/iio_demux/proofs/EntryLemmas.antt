@@ -1,4 +1,4 @@
--- The entries of the channels before a channel: one channel more, and where they lie.
+-- The entries of the channels before a channel: another channel, and where they lie.
 use Rattle.std.proofs.Common.{◌≡◌, ℕ, zero, suc, ◌+◌, ◌-◌, ◌/◌, ◌%◌, ◌^◌, ◌≤◌, max, Bool, true, false, cond, List, [], ◌∷◌, ◌++◌, map, filter, refl, sym, ap, ◌∙◌, inl, inr, arith, add-one, IsTrue}
 use Rattle.std.specs.Prelude.{◌==◌}
 use Rattle.std.specs.Int.{bit_at, next_multiple_of}
@@ -17,19 +17,19 @@ use Rattle.iio_layout.proofs.SelectedLemmas.{range_next}
 use Rattle.iio_demux.specs.Table.{AreInOrder, IsCopyTable, channel_entries, channel_entry, channels_below, table_of}
 use Rattle.iio_demux.proofs.MergeLemmas.{merged_apart, merged_in_order}
 
--- one channel more, selected or not
+-- another channel, selected or not
 channels_more : (mask n : ℕ) → channels_below mask (n + 1) ≡ channels_below mask n ++ cond (has mask n) (n ∷ []) []
 channels_more mask n =
     ap (filter (λ c. has mask c)) (range_next n) ∙ filter-append (λ c. has mask c) (range_with_len 0 n) (n ∷ [])
 
--- a channel of the buffer's mask has one entry more
+-- a channel of the buffer's mask adds an entry
 entries_more : (shape : ShapeRecord) (active buffer n : ℕ) → has buffer n ≡ true
     → channel_entries shape active buffer n ++ channel_entry shape active buffer n ∷ [] ≡ channel_entries shape active buffer (n + 1)
 entries_more shape active buffer n selected =
     let channels : channels_below buffer (n + 1) ≡ channels_below buffer n ++ n ∷ [] = rw selected at (channels_more buffer n) in
     sym (ap (map (channel_entry shape active buffer)) channels ∙ map-append (channel_entry shape active buffer) (channels_below buffer n) (n ∷ []))
 
--- any other has none
+-- any other channel adds no entry
 pub entries_same : (shape : ShapeRecord) (active buffer n : ℕ) → has buffer n ≡ false
     → channel_entries shape active buffer n ≡ channel_entries shape active buffer (n + 1)
 entries_same shape active buffer n other =
@@ -43,7 +43,7 @@ pub end_more : (shape : ShapeRecord) (mask n end place size : ℕ) → has mask 
     → size ≡ size_at (formats_of shape) n → place ≡ next_multiple_of end size → place + size ≡ end_below (formats_of shape) mask (n + 1)
 end_more shape mask n end place size selected is_end is_size is_place = rw (is_place, is_end, is_size, add-one, selected) refl
 
--- any other takes no room
+-- any other channel takes no room
 pub end_same : (shape : ShapeRecord) (mask n end : ℕ) → has mask n ≡ false → end ≡ end_below (formats_of shape) mask n
     → end ≡ end_below (formats_of shape) mask (n + 1)
 end_same shape mask n end other is_end = rw (is_end, add-one, other) refl
@@ -69,7 +69,7 @@ ended mask n ends is_end is k later =
     let bit : bit_at mask k ≡ 0 = ap (λ m. m % 2) none in
     rw bit refl
 
--- so they have no entries
+-- such channels have no entries
 entries_past : (shape : ShapeRecord) (active buffer n d m : ℕ) → m ≡ n + d → ((k : ℕ) → n ≤ k → has buffer k ≡ false)
     → channel_entries shape active buffer n ≡ channel_entries shape active buffer m
 entries_past shape active buffer n zero m is none = let same : n ≡ m = omega arith in ap (channel_entries shape active buffer) same
@@ -82,7 +82,7 @@ pub entries_rest : (shape : ShapeRecord) (active buffer n : ℕ) → n ≤ count
     → channel_entries shape active buffer n ≡ channel_entries shape active buffer (count_of shape)
 entries_rest shape active buffer n within none = entries_past shape active buffer n (count_of shape - n) (count_of shape) (omega arith) none
 
--- and take no room
+-- such channels take no room
 end_past : (shape : ShapeRecord) (mask n d m : ℕ) → m ≡ n + d → ((k : ℕ) → n ≤ k → has mask k ≡ false)
     → end_below (formats_of shape) mask n ≡ end_below (formats_of shape) mask m
 end_past shape mask n zero m is none = let same : n ≡ m = omega arith in ap (end_below (formats_of shape) mask) same
@@ -109,17 +109,17 @@ size_rest shape mask n end largest size within none is_end is_largest is_size =
     let largest_is = is_largest ∙ largest_past shape mask n (count_of shape - n) (count_of shape) (omega arith) none in
     is_size ∙ rw (ends, largest_is) refl
 
--- a channel that isn't in the active mask isn't in the buffer's
+-- a channel that isn't in the active mask isn't in the buffer's mask
 pub outside : (active buffer n : ℕ) → ((c : ℕ) → IsTrue (has buffer c) → IsTrue (has active c)) → has active n ≡ false → has buffer n ≡ false
 outside active buffer n within other =
     elim (cases_Bool (has buffer n)) [ inl selected ↦ absurd (false≢true (sym other ∙ within n selected)) | inr none ↦ none ]
 
--- a place that is reckoned from the end of the channels before it
+-- the place that is computed from the end of the channels before it is the channel's
 place_is : (shape : ShapeRecord) (mask n end place size : ℕ) → end ≡ end_below (formats_of shape) mask n → size ≡ size_at (formats_of shape) n
     → place ≡ next_multiple_of end size → place ≡ place_of shape mask n
 place_is shape mask n end place size is_end is_size is_place = rw (is_place, is_end, is_size) refl
 
--- the entry that is put after the others is the channel's
+-- the entry that is appended is the channel's
 pub pushed_entry : (shape : ShapeRecord) (active buffer n active_end buffer_end from to size : ℕ) → has buffer n ≡ true
     → active_end ≡ end_below (formats_of shape) active n → buffer_end ≡ end_below (formats_of shape) buffer n → size ≡ size_at (formats_of shape) n
     → from ≡ next_multiple_of active_end size → to ≡ next_multiple_of buffer_end size
@@ -150,7 +150,7 @@ lie_from shape active buffer a (suc n) active_size buffer_size within active_end
       | inr other ↦ rw other (rw (end_same shape buffer a (end_below formats buffer a) other refl) rest)
     ]
 
--- the table of two masks, one within the other, is one
+-- the table of two masks, the buffer's within the active one, is sound
 pub table_sound : (shape : ShapeRecord) (active buffer : ℕ) → ((c : ℕ) → IsTrue (has buffer c) → IsTrue (has active c))
     → IsCopyTable (table_of shape active buffer)
 table_sound shape active buffer within =

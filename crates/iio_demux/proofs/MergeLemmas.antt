@@ -1,4 +1,4 @@
--- Merged entries: one entry more at the end, where they lie, and what they make of a scan.
+-- Merged entries: another entry at the end, where they lie, and what they make of a scan.
 use Rattle.std.proofs.Common.{◌≡◌, ℕ, zero, suc, ◌+◌, ◌-◌, ◌≤◌, true, false, cond, List, [], ◌∷◌, ◌++◌, length, get_or, set, map, refl, sym, ap, subst, ◌∙◌, inl, inr, arith}
 use Rattle.std.specs.List.{range_with_len}
 use Rattle.std.proofs.lemmas.Bool.{cases_Bool}
@@ -12,11 +12,11 @@ use Rattle.iio_demux.specs.Table.{AreInOrder, AreMerged, byte_at, continues, cop
 pub continues_tells : (entry next : Entry) → continues entry next ≡ true → (entry.from + entry.length ≡ next.from) × (entry.to + entry.length ≡ next.to)
 continues_tells entry next goes_on = grind (arith, nat_tests)
 
--- an entry continues two that are one where it continues the second
+-- an entry continues two joined entries exactly if it continues the second
 continues_joined : (entry next last : Entry) → continues entry next ≡ true → continues (joined entry next) last ≡ continues next last
 continues_joined entry next last goes_on = let at = continues_tells entry next goes_on in grind (arith, nat_tests, at)
 
--- an entry is continued by two that are one where the first continues it
+-- an entry is continued by two joined entries exactly if the first of them continues it
 continues_first : (entry next last : Entry) → continues entry (joined next last) ≡ continues entry next
 continues_first entry next last = refl
 
@@ -24,9 +24,9 @@ joined_joined : (a b c : Entry) → joined (joined a b) c ≡ joined a (joined b
 joined_joined a b c = let sum : a.length + b.length + c.length ≡ a.length + (b.length + c.length) = omega arith in
     ap (λ n. record { from = a.from; to = a.to; length = n }) sum
 
--- ---- one entry more
+-- ---- another entry
 
--- entries with one more at the end, as one with the last where it continues that
+-- entries with another one at the end, joined with the last if it continues that
 abbrev pub with_last : List Entry → Entry → List Entry
 with_last [] entry = entry ∷ []
 with_last (last ∷ []) entry = cond (continues last entry) (joined last entry ∷ []) (last ∷ entry ∷ [])
@@ -92,7 +92,7 @@ with_last-pushed (e ∷ []) (suc n) d entry many parted = absurd (omega arith)
 with_last-pushed (e ∷ next ∷ es) zero d entry many parted = absurd (omega arith)
 with_last-pushed (e ∷ next ∷ es) (suc n) d entry many parted = ap (λ l. e ∷ l) (with_last-pushed (next ∷ es) n d entry (omega arith) parted)
 
--- an entry that is put after merged ones: as one with the last, after it, and alone
+-- an entry that is put after merged ones: joined with the last, after the last, and as the only one
 pub pushed_joined : (before items : List Entry) (n : ℕ) (last found entry : Entry) → items ≡ merged before → n + 1 ≡ length items
     → last ≡ get_or items n last → found ≡ get_or items n found → continues last entry ≡ true
     → set items n (record { from = found.from; to = found.to; length = found.length + entry.length }) ≡ merged (before ++ entry ∷ [])
@@ -156,7 +156,7 @@ pub byte_at-cons : (entry : Entry) (entries : List Entry) (scan : List ℕ) (j :
     → byte_at (entry ∷ entries) scan j ≡ cond (covers entry j) (source_of entry scan j) (byte_at entries scan j)
 byte_at-cons entry entries scan j = elim (cases_Bool (covers entry j)) [ inl own ↦ rw own refl | inr other ↦ rw other refl ]
 
--- two entries that are one have the bytes of both
+-- two joined entries have the bytes of both
 joined_byte : (entry next : Entry) (later : List Entry) (scan : List ℕ) (j : ℕ) → continues entry next ≡ true
     → byte_at (joined entry next ∷ later) scan j ≡ byte_at (entry ∷ next ∷ later) scan j
 joined_byte entry next later scan j goes_on =

@@ -12,7 +12,7 @@ use Rattle.iio_demux.specs.Table.{byte_at, channel_entries, channel_entry, copie
 use Rattle.iio_demux.proofs.CopyLemmas.{covers_tells, covers_within}
 use Rattle.iio_demux.proofs.MergeLemmas.{copied-merged}
 
--- the byte that entries of channels from a on have, by what it is in each of them, and by what it is in none
+-- the byte that the entries of channels from a on have, if it is the same in each entry that covers it, and if none covers it
 byte_is : (shape : ShapeRecord) (active buffer a n : ℕ) (scan : List ℕ) (j byte : ℕ)
     → ((c : ℕ) → a ≤ c → c < a + n → has buffer c ≡ true → covers (channel_entry shape active buffer c) j ≡ true
     → byte ≡ source_of (channel_entry shape active buffer c) scan j)
@@ -51,7 +51,7 @@ same_byte shape active buffer c j values t wide below selected own covered =
     let at : place_of shape buffer c + k ≡ j = omega (arith, lies) in
     rw at at (scan_of-at shape buffer values t c k wide below own inside) ∙ sym (scan_of-at shape active values t c k wide below selected inside)
 
--- of a capture's scan under the one mask the entries of its channels make its scan under the other
+-- from a capture's scan under the active mask the entries of the buffer's channels make its scan under the buffer's mask
 copied-scan_of : (shape : ShapeRecord) (active buffer : ℕ) (values : List ℤ) (t : ℤ) → ((c : ℕ) → IsTrue (has buffer c) → IsTrue (has active c))
     → length values ≡ width_of shape
     → copied (channel_entries shape active buffer (count_of shape)) (scan_of shape active values t) (scan_size shape buffer) ≡ scan_of shape buffer values t
@@ -65,7 +65,7 @@ copied-scan_of shape active buffer values t within wide =
     (λ none. scan_of-outside shape buffer values t j wide (λ c lies.
     absurd (false≢true (sym (none c (omega arith) (omega (arith, lies.0)) lies.1) ∙ covers_within (channel_entry shape active buffer c) j lies.2 lies.3))))))
 
--- and so does the table
+-- the table of the two masks makes that scan too
 pub table_scans : (shape : ShapeRecord) (active buffer : ℕ) (values : List ℤ) (t : ℤ) → ((c : ℕ) → IsTrue (has buffer c) → IsTrue (has active c))
     → length values ≡ width_of shape
     → copied (table_of shape active buffer).entries (scan_of shape active values t) (table_of shape active buffer).buffer_size ≡ scan_of shape buffer values t

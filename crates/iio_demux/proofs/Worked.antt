@@ -28,15 +28,15 @@ alike = record {
   listed = [];
 }
 
--- of all channels, voltage0 and the timestamp
+-- from all channels to voltage0 and the timestamp
 alike_entries : (table_of alike 63 33).entries ≡ entry 0 0 2 ∷ entry 16 8 8 ∷ []
 alike_entries = refl
 
--- three neighbours, which are one entry
+-- from all channels to three neighbours, which share one entry
 alike_neighbours : (table_of alike 63 14).entries ≡ entry 2 0 6 ∷ []
 alike_neighbours = refl
 
--- voltage0, voltage2 and voltage3, which are one entry, and the timestamp
+-- from all channels to voltage0, to voltage2 and voltage3, which share one entry, and to the timestamp
 alike_parts : (table_of alike 63 45).entries ≡ entry 0 0 2 ∷ entry 4 2 4 ∷ entry 16 8 8 ∷ []
 alike_parts = refl
 
@@ -49,7 +49,7 @@ alike_scan = refl
 abbrev mixed : ShapeRecord
 mixed = record { channels = voltage 0 8 ∷ voltage 1 32 ∷ voltage 2 16 ∷ []; stamp = Some Little; listed = [] }
 
--- of all channels, the first and the last of data, with a byte of padding between them
+-- from all channels to the first and the last data channel, with a byte of padding between them
 mixed_entries : (table_of mixed 15 5).entries ≡ entry 0 0 1 ∷ entry 8 2 2 ∷ []
 mixed_entries = refl
 

@@ -26,11 +26,11 @@ abbrev pub channel_entry : ShapeRecord → (active buffer c : ℕ) → Entry
 channel_entry shape active buffer c =
     record { from = place_of shape active c; to = place_of shape buffer c; length = size_at (formats_of shape) c }
 
--- those of the channels of the buffer's mask before channel n, the timestamp's too, in the order of the channels
+-- the entries of the channels of the buffer's mask before channel n, the timestamp's too, in the order of the channels
 abbrev pub channel_entries : ShapeRecord → (active buffer n : ℕ) → List Entry
 channel_entries shape active buffer n = map (channel_entry shape active buffer) (channels_below buffer n)
 
--- whether the bytes of one entry go on, in both scans, where those of another end
+-- whether one entry begins, in both scans, where another ends
 abbrev pub continues : Entry → Entry → Bool
 continues entry next = (entry.from + entry.length == next.from) && (entry.to + entry.length == next.to)
 
@@ -38,12 +38,12 @@ continues entry next = (entry.from + entry.length == next.from) && (entry.to + e
 abbrev pub joined : Entry → Entry → Entry
 joined entry next = record { from = entry.from; to = entry.to; length = entry.length + next.length }
 
--- an entry before others, as one with the first of them where that continues it
+-- an entry before others, joined with the first of them if that continues it
 abbrev pub merged_before : Entry → List Entry → List Entry
 merged_before entry [] = entry ∷ []
 merged_before entry (next ∷ others) = if continues entry next then joined entry next ∷ others else entry ∷ next ∷ others
 
--- entries of which each is one with those that continue it
+-- the entries, each joined with those that continue it
 abbrev pub merged : List Entry → List Entry
 merged [] = []
 merged (entry ∷ others) = merged_before entry (merged others)
@@ -66,7 +66,7 @@ covers entry j = nat_le entry.to j && nat_lt j (entry.to + entry.length)
 abbrev pub source_of : Entry → List ℕ → ℕ → ℕ
 source_of entry scan j = slice_index scan (entry.from + (j - entry.to))
 
--- byte j of the buffer's scan: that of the first entry in which it lies, and 0 where it lies in none
+-- byte j of the buffer's scan: that of the first entry in which it lies, and 0 if it lies in none
 abbrev pub byte_at : List Entry → List ℕ → ℕ → ℕ
 byte_at entries scan j = option_map_or (λ entry. source_of entry scan j) (find (λ entry. covers entry j) entries) 0
 

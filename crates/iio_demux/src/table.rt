@@ -25,7 +25,7 @@ pub struct Entry {
 }
 
 impl Entry {
-    // Whether `next` goes on, in both scans, where this entry ends.
+    // Whether `next` begins, in both scans, where this entry ends.
     fn is_continued_by(self, next: Entry) -> bool
         ensures { result ≡ continues self next }
     {
@@ -33,7 +33,8 @@ impl Entry {
             && next.to.checked_sub(self.to) == Some(self.length)
     }
 
-    // Copies the entry's bytes, and answers where they end. `start` isn't after them, and all bytes from it on are zero.
+    // Copies the entry's bytes, and returns where they end. They don't begin before `start`, and all bytes from `start` on are
+    // zero.
     fn copy(self, start: usize, scan: &[u8], out: &mut [u8]) -> usize
         requires start { start ≤ self.to }
         requires from { self.from + self.length ≤ length scan.now }
@@ -53,7 +54,8 @@ impl Entry {
     }
 }
 
-// Copies bytes to as many. Few of them are copied by their known number, since a call would cost more than they do.
+// Copies `from` to `to`, which has the same length. A few bytes are copied with a constant length, since a call would cost
+// more.
 #[inline(always)]
 fn copy_bytes(from: &[u8], to: &mut [u8])
     requires { length from.now ≡ length to.old }
@@ -89,14 +91,14 @@ impl Model for Table {
 }
 
 impl Table {
-    /// The table that copies from a scan under the mask `active` to one under the mask `buffer` (kernel,
+    /// Makes the table that copies from a scan under the mask `active` to one under the mask `buffer` (kernel,
     /// `iio_buffer_update_demux`). All memory that the table ever takes is taken here.
     pub fn build(alloc: Global, shape: &Shape, active: Mask, buffer: Mask) -> Result<Table, Mem>
         requires below { active.bits < 2 ^ count_of shape.now }
         requires within { is_within buffer.bits active.bits ≡ true }
         ensures table { IfOk result (λ table. table ≡ table_of shape.now active.bits buffer.bits) }
 
-        // Of the active scan of any capture it makes the buffer's scan of the same capture.
+        // From the active scan of any capture it makes the buffer's scan of the same capture.
         ensures scans { IfOk result (λ table. (values : List ℤ) (t : ℤ) → length values ≡ width_of shape.now
             → copied table.entries (scan_of shape.now active.bits values t) table.buffer_size ≡ scan_of shape.now buffer.bits values t) }
     {
@@ -136,21 +138,21 @@ impl Table {
         copy_entries(&self.entries, scan, out);
     }
 
-    /// The bytes of a scan under the mask that it copies from.
+    /// The size in bytes of a scan under the mask that the table copies from.
     pub fn active_size(&self) -> u32
         ensures { result ≡ self.now.active_size }
     {
         self.active_size
     }
 
-    /// The bytes of a scan under the buffer's mask.
+    /// The size in bytes of a scan under the buffer's mask.
     pub fn buffer_size(&self) -> u32
         ensures { result ≡ self.now.buffer_size }
     {
         self.buffer_size
     }
 
-    /// The entries, in the order of their channels. Channels that are neighbours in both scans are in one.
+    /// The entries, in the order of their channels. Channels that are neighbours in both scans share an entry.
     pub fn entries(&self) -> &[Entry]
         ensures entries { result.now ≡ self.now.entries }
         ensures merged { AreMerged result.now }
@@ -159,7 +161,7 @@ impl Table {
     }
 }
 
-// Adds an entry at the end, as one with the last where it continues that.
+// Adds an entry at the end, or extends the last entry by it if it continues that.
 fn push_merged(entries: &mut Vec<Entry>, entry: Entry)
     requires room { vec_len entries.old < vec_capacity entries.old }
     requires end { entry.to + entry.length < 2 ^ 32 }
@@ -175,8 +177,8 @@ fn push_merged(entries: &mut Vec<Entry>, entry: Entry)
     entries.push_reserved(entry);
 }
 
-// The size of a scan whose last channel ends at byte `end` and whose largest has `largest` bytes. Without a channel both are 0,
-// and so is the size.
+// The size of a scan whose last channel ends at byte `end` and whose largest channel has `largest` bytes. Without a channel
+// both are 0, and so is the size.
 fn padded_size(end: u32, largest: u32) -> u32
     requires end { end < 2 ^ 31 }
     requires few { largest ≤ MAX_CHANNEL_SIZE }
@@ -189,7 +191,7 @@ fn padded_size(end: u32, largest: u32) -> u32
     aligned(end, largest)
 }
 
-// Whether channel `c` and those after it aren't in the mask.
+// Whether neither channel `c` nor any channel after it is in the mask.
 fn ends_before(mask: Mask, c: u32) -> bool
     requires { c < 64 }
     ensures { result ≡ (mask.bits / 2 ^ c == 0) }
@@ -197,8 +199,8 @@ fn ends_before(mask: Mask, c: u32) -> bool
     mask.bits >> c == 0
 }
 
-// Lists the entries of all channels of the buffer's mask, each of which is in the active mask, and answers the size of the
-// buffer's scan. Past the last of these channels nothing is looked at.
+// Adds the entries of all channels of the buffer's mask, each of which is in the active mask, and returns the size of the
+// buffer's scan. Nothing past the last of these channels is looked at.
 fn push_entries(shape: &Shape, active: Mask, buffer: Mask, entries: &mut Vec<Entry>) -> u32
     requires within { (c : ℕ) → IsTrue (has buffer.bits c) → IsTrue (has active.bits c) }
     requires none { entries.old.items ≡ [] }
@@ -230,7 +232,7 @@ fn push_entries(shape: &Shape, active: Mask, buffer: Mask, entries: &mut Vec<Ent
     padded_size(buffer_end, buffer_largest)
 }
 
-// Writes what the entries make of the active scan.
+// Writes the scan that the entries make of the active scan.
 fn copy_entries(entries: &[Entry], scan: &[u8], out: &mut [u8])
     requires { AreInOrder (length scan.now) (length out.old) 0 entries.now }
     ensures { out.new ≡ copied entries.now scan.now (length out.old) }

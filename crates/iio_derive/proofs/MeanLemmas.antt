@@ -14,7 +14,7 @@ sums_more : (c : List ℤ) (cs : List (List ℤ)) → sums_by (length cs) (sums_
 sums_more c [] = refl
 sums_more c (x ∷ cs) = refl
 
--- one capture more, after those of which the window has some
+-- another capture, after those of which the window has some
 module _ (size : ℕ) (w : Window) (c : List ℤ) (cs : List (List ℤ)) (some : 1 ≤ size) (is : IsWindowOf size w cs) where
   i : ℕ
   i = length cs % size
@@ -24,7 +24,7 @@ module _ (size : ℕ) (w : Window) (c : List ℤ) (cs : List (List ℤ)) (some :
       ∙ ap (λ (n : ℕ). sums_by n (sums_of (take (length cs % size) cs)) c) (sym (length-take-le (length cs % size) cs (mod-le (length cs) size)))
       ∙ sums_more c (take (length cs % size) cs)
 
-  -- the mean is made with it
+  -- the mean is made with that capture
   pub filled : is_filled_by size w ≡ true → (mean_with size c cs ≡ Some (means_of size (sums_with w c))) × IsWindowOf size no_window (c ∷ cs)
   filled full =
       let end : suc w.count ≡ size = grind (arith, nat_tests) in
@@ -36,7 +36,7 @@ module _ (size : ℕ) (w : Window) (c : List ℤ) (cs : List (List ℤ)) (some :
         record { counted = sym none; summed = ap (λ (n : ℕ). sums_of (take n (c ∷ cs))) (sym none) },
       )
 
-  -- or it isn't
+  -- no mean is made with that capture
   pub unfilled : is_filled_by size w ≡ false → (mean_with size c cs ≡ None) × IsWindowOf size (window_with w c) (c ∷ cs)
   unfilled going =
       let apart : suc w.count ≢ size = grind (arith, nat_tests) in
@@ -71,7 +71,7 @@ adds_means scan (Some count) old new cs some adds is =
 
 -- ---- the window that is kept
 
--- a window is full with one capture more where its captures and that one are as many as make a mean
+-- a window is full with another capture if its captures and that one are as many as make a mean
 pub filled_at : (size n : ℕ) (sums : List ℤ) → n + 1 ≡ size → is_filled_by size (window_of n sums) ≡ true
 filled_at size zero sums is = grind (arith, nat_tests)
 filled_at size (suc n) sums is = grind (arith, nat_tests)
@@ -80,7 +80,7 @@ pub kept_sums : (n : ℕ) (sums values : List ℤ) → sums_by n sums values ≡
 kept_sums zero sums values = refl
 kept_sums (suc n) sums values = refl
 
--- ... and it isn't where they are fewer
+-- a window isn't full with another capture if they are fewer
 pub unfilled_at : (size n : ℕ) (sums : List ℤ) → n + 1 < size → is_filled_by size (window_of n sums) ≡ false
 unfilled_at size zero sums less = grind (arith, nat_tests)
 unfilled_at size (suc n) sums less = grind (arith, nat_tests)

@@ -13,7 +13,7 @@ use Rattle.iio_derive.specs.Members.{SeatOffered, WasOffered, member_at}
 use Rattle.iio_derive.specs.Sized.{IsSized}
 use Rattle.iio_derive.specs.View.{AreSized}
 
--- those before place i were offered theirs, and those from it on are as they were
+-- the members before place i were offered their scans, and those from it on are as they were
 pub record Offering (shape : ShapeRecord) (values : List ℤ) (t : ℤ) (i : ℕ) (old seats : List (Option Membership)) : Type 0 where
   pub offered : (k : ℕ) → k < i → SeatOffered shape values t (member_at k old) (member_at k seats)
   pub left : (k : ℕ) → i ≤ k → member_at k seats ≡ member_at k old
@@ -30,7 +30,7 @@ sized_offered shape scan m m' sized offered =
     let size = offered_size scan m.queue m'.queue offered.answer offered.offered in
     rw offered.same (record { below = sized.below; size = size ∙ sized.size; few = rw size sized.few })
 
--- the member at place i is offered its own
+-- the member at place i is offered its own scan
 pub offered_more : (shape : ShapeRecord) (values : List ℤ) (t : ℤ) (i : ℕ) (old seats : List (Option Membership)) (m m' : Membership) → i < length seats
     → Offering shape values t i old seats → member_at i seats ≡ Some m → WasOffered (scan_of shape m.mask.bits values t) m m'
     → Offering shape values t (i + 1) old (set seats i (Some m'))
@@ -55,7 +55,7 @@ offered_more shape values t i old seats m m' less before is offer = record {
   same = length-set seats i (Some m') ∙ before.same;
 }
 
--- ... or there is none
+-- there is no member at place i
 passed : (shape : ShapeRecord) (values : List ℤ) (t : ℤ) (i : ℕ) (old seats : List (Option Membership))
     → Offering shape values t i old seats → member_at i seats ≡ None → Offering shape values t (i + 1) old seats
 passed shape values t i old seats before is = record {

@@ -13,7 +13,7 @@ IsWrittenBelow P i xs = (k : ℕ) → k < i → P k (slice_index_or xs k (pos 0)
 abbrev pub IsLeftFrom : ℕ → List ℤ → List ℤ → Type 0
 IsLeftFrom i old xs = (k : ℕ) → i ≤ k → slice_index_or xs k (pos 0) ≡ slice_index_or old k (pos 0)
 
--- one place more is written
+-- another place is written
 pub written_more : (P : ℕ → ℤ → Type 0) (i : ℕ) (v : ℤ) (xs : List ℤ) → i < length xs → P i v → IsWrittenBelow P i xs → IsWrittenBelow P (i + 1) (set xs i v)
 written_more P i v xs less here below k within = by (cases_eq k i)
   where
@@ -23,13 +23,13 @@ written_more P i v xs less here below k within = by (cases_eq k i)
         rw own (rw same here)
     by (inr other) = rw (get_or-set_other xs i k v (pos 0) other) (below k (omega (arith, within, other)))
 
--- ... and those after it are left
+-- the places after it are left as they were
 pub left_more : (i : ℕ) (v : ℤ) (old xs : List ℤ) → IsLeftFrom i old xs → IsLeftFrom (i + 1) old (set xs i v)
 left_more i v old xs left k more =
     let other : k ≢ i = λ same. absurd (omega (arith, same, more)) in
     get_or-set_other xs i k v (pos 0) other ∙ left k (omega (arith, more))
 
--- a list of which all places are written is the one that has the same at each
+-- a list that has the same at each place is the same list
 pub written_all : (xs ys : List ℤ) → length xs ≡ length ys → ((k : ℕ) → k < length xs → slice_index_or xs k (pos 0) ≡ slice_index_or ys k (pos 0)) → xs ≡ ys
 written_all xs ys long same = same_lists xs ys long (λ k d less.
     get_or_default xs k d (pos 0) less ∙ same k less ∙ sym (get_or_default ys k d (pos 0) (omega (arith, less, long))))

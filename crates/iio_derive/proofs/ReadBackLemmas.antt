@@ -26,7 +26,7 @@ use Rattle.iio_derive.proofs.ReadLemmas.{stamp_there}
 full_has : (shape : ShapeRecord) (c : ℕ) → c < count_of shape → has (full_mask shape) c ≡ true
 full_has shape c within = ap (λ n. n == 1) (bit_at_ones (count_of shape) c within)
 
--- at a channel's place stand its bytes
+-- a channel's bytes stand at its place
 field_stands : (shape : ShapeRecord) (values : List ℤ) (t : ℤ) (c : ℕ) → length values ≡ width_of shape → c < count_of shape
     → length (values_at (formats_of shape) (capture_values values t) c) ≡ (format_at (formats_of shape) c).repeat
     → take (size_at (formats_of shape) c) (drop (place_of shape (full_mask shape) c) (scan_of shape (full_mask shape) values t)) ≡ field_of shape values t c
@@ -101,7 +101,7 @@ data_profile shape c less types = by shape.channels refl
     by (d ∷ rest) some =
         subst IsInProfile (sym (data_type shape c d less)) (All-get_or (λ channel. IsInProfile channel.ty) shape.channels c d less types)
 
--- its values end within those of all data channels
+-- a channel's values end within those of all data channels
 data_ends : (shape : ShapeRecord) (c : ℕ) → c < length shape.channels
     → first_value (formats_of shape) c + (format_at (formats_of shape) c).repeat ≤ width_of shape
 data_ends shape c less =

@@ -16,7 +16,7 @@ use Rattle.iio_derive.specs.Values.{moment_by, value_in}
 use Rattle.iio_derive.specs.Window.{full_mask}
 use Rattle.iio_derive.specs.View.{IsPlace}
 
--- one place more is written, at channel c
+-- another place is written, at channel c
 pub places_more : (shape : ShapeRecord) (c place : ℕ) (places : List ℕ) → c < length places → IsPlace shape c place
     → ((k : ℕ) → k < c → IsPlace shape k (slice_index places k)) → (k : ℕ) → k < c + 1 → IsPlace shape k (slice_index (set places c place) k)
 places_more shape c place places less own below k within = by (cases_eq k c)
@@ -58,7 +58,7 @@ pub same_elements : (f g : ℕ → ℤ) → ((k : ℕ) → f k ≡ g k) → (n :
 same_elements f g same zero = refl
 same_elements f g same (suc n) = ap (λ (xs : List ℤ). xs ++ f n ∷ []) (same_elements f g same n) ∙ ap (λ (v : ℤ). elements_below g n ++ v ∷ []) (same n)
 
--- the values of one channel more
+-- the values of another channel
 pub values_more : (shape : ShapeRecord) (scan : List ℕ) (c start size : ℕ) (ty : Format) (before after : List ℤ) → ty ≡ format_at (formats_of shape) c
     → size ≡ size_of ty
     → start ≡ place_of shape (full_mask shape) c → before ≡ values_below (formats_of shape) (value_in shape scan) c
@@ -76,7 +76,7 @@ values_more shape scan c start size ty before after type_is size_is start_is rea
     done : List ℤ
     done = values_below (formats_of shape) (value_in shape scan) c
 
--- a moment, where there is a timestamp
+-- a moment, if there is a timestamp
 pub moment_of : (o : Option Endian) (endian : Endian) (t : ℤ) → o ≡ Some endian → t ≡ moment_by o t
 moment_of None endian t is = cc
 moment_of (Some e) endian t is = refl
@@ -87,7 +87,7 @@ length-elements : (f : ℕ → ℤ) (n : ℕ) → length (elements_below f n) �
 length-elements f zero = refl
 length-elements f (suc n) = length-append (elements_below f n) (f n ∷ []) ∙ (let before = length-elements f n in omega (arith, before))
 
--- those of the data channels before channel c
+-- the number of values of the data channels before channel c
 length-below : (xs ys : List Format) (f : ℕ → ℕ → ℤ) (c : ℕ) → c ≤ length xs
     → length (values_below (xs ++ ys) f c) ≡ sum_by (λ (t : Format). t.repeat) (take c xs)
 length-below xs ys f zero few = refl

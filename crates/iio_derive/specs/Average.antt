@@ -1,4 +1,4 @@
--- An averaging device as callers see it, and what each call makes of it. (This project's own.)
+-- An averaging device as callers see it, and how each call changes it. (This project's own.)
 use Rattle.std.specs.Prelude.{◌≡◌, ℕ, Bool, true, false, List, [], Option, Some, None, is_some, if◌then◌else◌, ◌∷◌, Result, Ok, Err, IsSome, MatchOption, ℤ}
 use Rattle.std.specs.List.{list_any}
 use Rattle.iio_base.specs.declared.Mem.{Mem}
@@ -34,7 +34,7 @@ new_member shape mask capacity = record {
   queue = record { scans = []; taken = 0; lost = 0; size = scan_size shape mask.bits; capacity = capacity };
 }
 
--- a member joins under a number that none has; want of memory changes nothing
+-- a member joins under a number that none has; lack of memory changes nothing
 abbrev pub Joins : Mask → (capacity : ℕ) → Result ℕ Mem → AverageRecord → AverageRecord → Type 0
 Joins mask capacity (Ok number) old new =
     (member_at number old.seats ≡ None)
@@ -46,7 +46,7 @@ Joins mask capacity (Err e) old new = new ≡ old
 abbrev pub window_left : List (Option Membership) → Window → Window
 window_left seats w = if has_member seats then w else no_window
 
--- the member of that number leaves; where there is none, nothing changes
+-- the member of that number leaves; if there is none, nothing changes
 abbrev pub Leaves : ℕ → Bool → AverageRecord → AverageRecord → Type 0
 Leaves number false old new = (is_some (member_at number old.seats) ≡ false) × (new ≡ old)
 Leaves number true old new =
@@ -58,7 +58,7 @@ Leaves number true old new =
 abbrev pub AllOffered : ShapeRecord → List ℤ → ℤ → (old new : List (Option Membership)) → Type 0
 AllOffered shape values t old new = (number : ℕ) → SeatOffered shape values t (member_at number old) (member_at number new)
 
--- one capture more: with it the window isn't full; or it is, the mean is offered to each member, and the window begins anew
+-- another capture: with it the window isn't full; or it is, the mean is offered to each member, and the window begins anew
 abbrev pub Adds : List ℕ → Option ℕ → AverageRecord → AverageRecord → Type 0
 Adds scan None old new =
     (is_filled_by old.size old.window ≡ false)
@@ -69,7 +69,7 @@ Adds scan (Some count) old new =
     × AllOffered old.shape (means_of old.size (sums_with old.window (values_in old.shape scan))) (moment_in old.shape scan) old.seats new.seats
     × (new ≡ record old { window = no_window; seats = new.seats })
 
--- the member's oldest scan is taken; where there is no such member, nothing changes
+-- the member's oldest scan is taken; if there is no such member, nothing changes
 abbrev pub TakesOf : ℕ → Option Bool → (out out' : List ℕ) → AverageRecord → AverageRecord → Type 0
 TakesOf number None out out' old new = (is_some (member_at number old.seats) ≡ false) × (new ≡ old) × (out' ≡ out)
 TakesOf number (Some given) out out' old new =
@@ -77,7 +77,7 @@ TakesOf number (Some given) out out' old new =
     × Takes number given out out' old.seats new.seats
     × (new ≡ record old { seats = new.seats })
 
--- the member's oldest scans are taken; where there is no such member, nothing changes
+-- the member's oldest scans are taken; if there is no such member, nothing changes
 abbrev pub TakesScansOf : (number most : ℕ) → Option ℕ → (before after : List ℕ) → AverageRecord → AverageRecord → Type 0
 TakesScansOf number most None before after old new = (is_some (member_at number old.seats) ≡ false) × (new ≡ old) × (after ≡ before)
 TakesScansOf number most (Some count) before after old new =
@@ -85,7 +85,7 @@ TakesScansOf number most (Some count) before after old new =
     × TakesScans number most count before after old.seats new.seats
     × (new ≡ record old { seats = new.seats })
 
--- one capture more, by the captures since the first member joined, the newest first: with the capture that fills a window the
+-- another capture, by the captures since the first member joined, the newest first: with the capture that fills a window the
 -- mean of the window's captures is offered, and with no other
 abbrev pub MeansOf : List ℕ → Option ℕ → AverageRecord → AverageRecord → List (List ℤ) → Type 0
 MeansOf scan result old new captures =

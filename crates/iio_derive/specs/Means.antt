@@ -12,8 +12,8 @@ sums_of (c ∷ x ∷ cs) = added c (sums_of (x ∷ cs))
 abbrev pub mean_of : (size : ℕ) → List (List ℤ) → List ℤ
 mean_of size captures = means_of size (sums_of captures)
 
--- what one capture more of the base makes, after those since the first member joined, the newest first: where their number is
--- then a multiple of `size`, the mean of the last `size` captures, this one among them
+-- what another capture of the base makes, after those since the first member joined, the newest first: if their number is then
+-- a multiple of `size`, the mean of the last `size` captures, this one among them
 abbrev pub mean_with : (size : ℕ) → (capture : List ℤ) → List (List ℤ) → Option (List ℤ)
 mean_with size c cs = if suc (length cs) % size == 0 then Some (mean_of size (c ∷ take (size - 1) cs)) else None
 

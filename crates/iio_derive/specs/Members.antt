@@ -14,7 +14,7 @@ member_at number seats = slice_index_or seats number None
 abbrev pub member_count : List (Option Membership) → ℕ
 member_count seats = count_by is_some seats
 
--- the member of that number is now this, and all others are as they were
+-- this is the member of that number afterwards, and all others are as they were
 pub record ChangesOne (number : ℕ) (member : Option Membership) (old new : List (Option Membership)) : Type 0 where
   pub is : member_at number new ≡ member
   pub others : (other : ℕ) → other ≢ number → member_at other new ≡ member_at other old
@@ -25,13 +25,13 @@ pub record WasOffered (scan : List ℕ) (old new : Membership) : Type 0 where
   pub answer : Offered
   pub offered : Offers old.queue scan answer new.queue
 
--- the member at a place, where there is one, was offered its scan of these values at this moment
+-- the member at a place, if there is one, was offered its scan of these values at this moment
 abbrev pub SeatOffered : ShapeRecord → (values : List ℤ) → (moment : ℤ) → Option Membership → Option Membership → Type 0
 SeatOffered shape values t None new = new ≡ None
 SeatOffered shape values t (Some old) None = ⊥
 SeatOffered shape values t (Some old) (Some new) = WasOffered (scan_of shape old.mask.bits values t) old new
 
--- the oldest scan of a member's queue is moved out, and the answer says whether there was one
+-- the oldest scan of a member's queue is moved out; `given` says whether there was one
 abbrev pub Drains : Bool → (out out' : List ℕ) → (old new : Option Membership) → Type 0
 Drains given out out' None new = ⊥
 Drains given out out' (Some old) None = ⊥
@@ -44,13 +44,13 @@ pub record Takes (number : ℕ) (given : Bool) (out out' : List ℕ) (old new : 
   pub moved : Drains given out out' (member_at number old) (member_at number new)
   pub others : (other : ℕ) → other ≢ number → member_at other new ≡ member_at other old
 
--- the oldest scans of a member's queue, at most `most`, are moved after what stood before
+-- the oldest scans of a member's queue, at most `most`, are taken and appended to what was there before
 abbrev pub DrainsScans : (most count : ℕ) → (before after : List ℕ) → (old new : Option Membership) → Type 0
 DrainsScans most count before after None new = ⊥
 DrainsScans most count before after (Some old) None = ⊥
 DrainsScans most count before after (Some old) (Some new) = (new ≡ record old { queue = new.queue }) × GivesScans most count before after old.queue new.queue
 
--- those of the member of that number are, and the others stay
+-- the oldest scans of the member of that number are taken, and the others stay
 pub record TakesScans (number most count : ℕ) (before after : List ℕ) (old new : List (Option Membership)) : Type 0 where
   pub moved : DrainsScans most count before after (member_at number old) (member_at number new)
   pub others : (other : ℕ) → other ≢ number → member_at other new ≡ member_at other old

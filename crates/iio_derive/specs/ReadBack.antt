@@ -14,7 +14,7 @@ pub record IsCapture (shape : ShapeRecord) (values : List ℤ) : Type 0 where
   pub width : length values ≡ width_of shape
   pub ranges : (c : ℕ) → c < length shape.channels → All (λ v. IsInRange (format_at (formats_of shape) c) v) (values_at (formats_of shape) values c)
 
--- the values, and, where there is a timestamp, the moment
+-- the values, and, if there is a timestamp, the moment
 pub record ReadsBack (shape : ShapeRecord) (captured : List ℤ) (t : ℤ) : Type 0 where
   pub values : values_in shape (scan_of shape (full_mask shape) captured t) ≡ captured
   pub moment : (endian : Endian) → shape.stamp ≡ Some endian → IsInRange (stamp_format endian) t

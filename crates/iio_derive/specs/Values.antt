@@ -16,7 +16,7 @@ value_in shape scan c k =
 abbrev pub values_in : ShapeRecord → (scan : List ℕ) → List ℤ
 values_in shape scan = values_by shape (value_in shape scan)
 
--- the moment: the timestamp, which is the last channel; where there is none, no scan has a moment
+-- the moment: the timestamp, which is the last channel; if there is none, no scan has a moment
 abbrev pub moment_by : Option Endian → ℤ → ℤ
 moment_by None t = pos 0
 moment_by (Some endian) t = t

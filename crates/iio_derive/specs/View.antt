@@ -30,7 +30,7 @@ window_of (suc n) sums = record { count = suc n; sums = sums }
 abbrev pub AreSized : ShapeRecord → List (Option Membership) → Type 0
 AreSized shape seats = (number : ℕ) → IfSome (member_at number seats) (λ m. IsSized shape m)
 
--- of an averaging device's fields
+-- what holds of an averaging device's fields
 pub record IsSound (shape : ShapeRecord) (size count : ℕ) (places : List ℕ) (sums : List ℤ) (values room : ℕ) (seats : List (Option Membership)) : Type 0 where
   pub low : 2 ≤ size
   pub high : size ≤ 1000

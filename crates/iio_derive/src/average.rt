@@ -56,7 +56,7 @@ impl Model for Average {
 }
 
 impl Average {
-    /// A device of that shape, its base's, whose means are those of `window` captures each. It has no member.
+    /// Makes a device of that shape, its base's, with a mean of each `window` captures. It has no member.
     pub fn new(alloc: Global, shape: Shape, window: u32) -> Result<Average, Mem>
         requires low { 2 ≤ window }
         requires high { window ≤ 1000 }
@@ -80,22 +80,22 @@ impl Average {
         })
     }
 
-    /// Its channels, which are its base's.
+    /// The device's channels, which are its base's.
     pub fn shape(&self) -> &Shape
         ensures { result.now ≡ self.now.shape }
     {
         &self.shape
     }
 
-    /// Whether it has a member.
+    /// Whether the device has a member.
     pub fn has_member(&self) -> bool
         ensures { result ≡ has_member self.now.seats }
     {
         has_member(&self.seats)
     }
 
-    /// A member more, of scans under the mask, of which at most `capacity` wait. Its number is one that no living member
-    /// has. Where memory runs out, or 2^32 - 1 members live, nothing changes.
+    /// Adds a member with scans under the mask, of which at most `capacity` wait, and returns its number, which no living
+    /// member has. If memory runs out, or 2^32 - 1 members live, nothing changes.
     pub fn join(&mut self, mask: Mask, capacity: u32) -> Result<u32, Mem>
         requires below { mask.bits < 2 ^ count_of self.old.shape }
         requires channel { has_data self.old.shape mask.bits ≡ true }
@@ -119,7 +119,7 @@ impl Average {
         Ok(number as u32)
     }
 
-    /// The member leaves, and its queue is dropped. When the last one leaves, the window begins anew. False exactly where
+    /// Removes the member and drops its queue. When the last member leaves, the window begins anew. Returns false exactly if
     /// there is no such member, and then nothing changes.
     pub fn leave(&mut self, member: u32) -> bool
         ensures { Leaves member result self.old self.new }
@@ -135,10 +135,10 @@ impl Average {
         true
     }
 
-    /// Takes a capture of the base, as its scan of all channels. Where it fills the window, the mean of the window's captures
-    /// is made at this one's moment, each member is offered the mean's scan under its own mask, once, and the answer is how
-    /// many members there are; the window then begins anew. `None` comes exactly where the window isn't full with it. The
-    /// sums grow with each capture, so the work is linear in the channels, and for a mean in the members' channels.
+    /// Takes a capture of the base, as its scan of all channels. If it fills the window, the mean of the window's captures is
+    /// made at this one's moment, each member is offered the mean's scan under its own mask, once, and the number of members is
+    /// returned; the window then begins anew. Returns `None` exactly if the window isn't full with it. The sums grow with each
+    /// capture, so the work is linear in the channels, and for a mean in the members' channels.
     pub fn add(&mut self, scan: &[u8]) -> Option<u32>
         requires size { length scan.now ≡ scan_size self.old.shape (full_mask self.old.shape) }
         requires member { has_member self.old.seats ≡ true }
@@ -166,8 +166,8 @@ impl Average {
         Some(count as u32)
     }
 
-    /// Moves the member's oldest scan into `out`, which has the bytes of its scans, and says whether there was one. `None`
-    /// comes exactly where there is no such member, and then nothing changes.
+    /// Moves the member's oldest scan into `out`, which has the size of its scans, and returns whether there was one. Returns
+    /// `None` exactly if there is no such member, and then nothing changes.
     pub fn take(&mut self, member: u32, out: &mut [u8]) -> Option<bool>
         requires { IfSome (member_at member self.old.seats) (λ m. length out.old ≡ m.queue.size) }
         ensures { TakesOf member result out.old out.new self.old self.new }
@@ -179,9 +179,9 @@ impl Average {
         Some(take_at(&mut self.seats, number, out))
     }
 
-    /// Moves up to `most` of the member's oldest scans after the bytes that stand in `out`, one after the other, and says how
-    /// many scans there were. `None` comes exactly where there is no such member, and then nothing changes. There is room in
-    /// `out` for the bytes of `most` scans.
+    /// Takes up to `most` of the member's oldest scans, appends them to `out`, one after the other, and returns how many there
+    /// were. Returns `None` exactly if there is no such member, and then nothing changes. `out` must have room for the bytes of
+    /// `most` scans.
     pub fn take_scans(&mut self, member: u32, most: u32, out: &mut Vec<u8>) -> Option<u32>
         requires { IfSome (member_at member self.old.seats) (λ m. length out.old.items + most * m.queue.size ≤ vec_capacity out.old) }
         ensures takes { TakesScansOf member most result out.old.items out.new.items self.old self.new }
@@ -195,7 +195,7 @@ impl Average {
         Some(take_scans_at(&mut self.seats, number, most, out))
     }
 
-    /// How many scans wait for the member. `None` comes exactly where there is no such member.
+    /// The number of scans that wait for the member. Returns `None` exactly if there is no such member.
     pub fn waiting(&self, member: u32) -> Option<u32>
         ensures { result ≡ option_map (λ (m : Membership). length m.queue.scans) (member_at member self.now.seats) }
     {
@@ -205,8 +205,8 @@ impl Average {
         }
     }
 
-    /// How many scans the member has lost since its joining, because its queue was full. `None` comes exactly where there is
-    /// no such member.
+    /// The number of scans that the member has lost since its joining because its queue was full. Returns `None` exactly if
+    /// there is no such member.
     pub fn lost(&self, member: u32) -> Option<u64>
         ensures { result ≡ option_map (λ (m : Membership). m.queue.lost) (member_at member self.now.seats) }
     {

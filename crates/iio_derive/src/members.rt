@@ -34,7 +34,7 @@ pub(crate) fn is_live(seats: &[Option<Membership>], number: usize) -> bool
     }
 }
 
-// Offers a member its scan of these values at this moment. The room has at least the bytes of that scan.
+// Offers a member its scan of these values at this moment. `room` has at least the size of that scan.
 fn offer_one(member: &mut Membership, shape: &Shape, values: &[i64], t: i64, room: &mut [u8])
     requires sized { IsSized shape.now member.old }
     requires width { length values.now ≡ width_of shape.now }
@@ -47,7 +47,7 @@ fn offer_one(member: &mut Membership, shape: &Shape, values: &[i64], t: i64, roo
     member.queue.offer(scan);
 }
 
-/// Offers each member its scan of these values at this moment. The room has at least the bytes of any scan of the shape.
+/// Offers each member its scan of these values at this moment. `room` has at least the size of any scan of the shape.
 pub(crate) fn offer_all(
     seats: &mut Vec<Option<Membership>>,
     shape: &Shape,
@@ -70,7 +70,7 @@ pub(crate) fn offer_all(
     }
 }
 
-/// The first place without a member; the one after all where there is none.
+/// The first place without a member, or the place after all if there is none.
 pub(crate) fn free_place(seats: &[Option<Membership>]) -> usize
     ensures free { member_at result seats.now ≡ None }
     ensures within { result ≤ length seats.now }
@@ -90,7 +90,7 @@ pub(crate) fn has_member(seats: &[Option<Membership>]) -> bool
     seats.iter().any(|seat| seat.is_some())
 }
 
-/// How many members there are.
+/// The number of members.
 pub(crate) fn member_count(seats: &[Option<Membership>]) -> usize
     ensures value { result ≡ member_count seats.now }
     ensures within { result ≤ length seats.now }
@@ -98,7 +98,7 @@ pub(crate) fn member_count(seats: &[Option<Membership>]) -> usize
     seats.iter().filter(|seat| seat.is_some()).count()
 }
 
-/// Moves the oldest scan of the member at that place into `out`, and says whether there was one.
+/// Moves the oldest scan of the member at that place into `out`, and returns whether there was one.
 pub(crate) fn take_at(seats: &mut Vec<Option<Membership>>, at: usize, out: &mut [u8]) -> bool
     requires live { IsSome (member_at at seats.old.items) }
     requires size { IfSome (member_at at seats.old.items) (λ m. length out.old ≡ m.queue.size) }
@@ -111,7 +111,7 @@ pub(crate) fn take_at(seats: &mut Vec<Option<Membership>>, at: usize, out: &mut 
     }
 }
 
-/// Moves the oldest scans of the member at that place, at most `most`, after what stands in `out`, and says how many there
+/// Takes at most `most` of the oldest scans of the member at that place, appends them to `out`, and returns how many there
 /// were.
 pub(crate) fn take_scans_at(
     seats: &mut Vec<Option<Membership>>,

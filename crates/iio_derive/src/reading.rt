@@ -41,7 +41,7 @@ pub(crate) fn places_of(shape: &Shape) -> [u32; MAX_CHANNELS]
     places
 }
 
-// Reads the elements in a channel's bytes, after the values that were read.
+// Appends the elements in a channel's bytes to `values`.
 fn read_channel(ty: &ScanType, field: &[u8], values: &mut Vec<i64>)
     requires size { length field.now ≡ size_of ty.now }
     requires room { length values.old.items + MAX_REPEAT ≤ vec_capacity values.old }
@@ -54,7 +54,7 @@ fn read_channel(ty: &ScanType, field: &[u8], values: &mut Vec<i64>)
     }
 }
 
-// Reads the elements of all data channels in a scan of all channels, in their order.
+// Reads the elements of all data channels, in their order, from a scan of all channels.
 pub(crate) fn read_values(
     shape: &Shape,
     places: &[u32; MAX_CHANNELS],
@@ -88,7 +88,7 @@ fn read_last(shape: &Shape, places: &[u32; MAX_CHANNELS], scan: &[u8]) -> i64
     ty.get(&scan[start..start + ty.size() as usize], 0)
 }
 
-// The moment in a scan of all channels; 0 where no scan has one.
+// The moment in a scan of all channels; 0 if the shape has no timestamp.
 pub(crate) fn read_moment(shape: &Shape, places: &[u32; MAX_CHANNELS], scan: &[u8]) -> i64
     requires places { ArePlaces shape.now places.now }
     requires size { length scan.now ≡ scan_size shape.now (full_mask shape.now) }
@@ -101,7 +101,7 @@ pub(crate) fn read_moment(shape: &Shape, places: &[u32; MAX_CHANNELS], scan: &[u
 }
 
 /// The law that a scan of all channels gives back the values that it was laid out of, each of which is in the range of its
-/// channel's type, and its moment where there is a timestamp. The call does nothing.
+/// channel's type, and its moment if there is a timestamp. The call does nothing.
 pub fn reading_law()
     ensures { ReadingLaw }
 {}

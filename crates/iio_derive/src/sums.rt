@@ -4,7 +4,7 @@ ghost use Rattle.std.specs.Prelude.{◌≡◌, ◌+◌, ◌≤◌, ◌<◌, ◌+
 ghost use Rattle.iio_derive.specs.Window.{added, means_of, sums_by};
 ghost use Rattle.iio_derive.specs.View.{IsSum};
 
-// The sum of `count` values with one more.
+// The sum of `count` values with another one added.
 fn sum_with(count: u32, sum: i128, value: i64) -> i128
     requires few { count ≤ 1000 }
     requires sum { IsSum count sum }
@@ -24,7 +24,7 @@ fn mean_of(size: u32, sum: i128) -> i64
     (sum / i128::from(size)) as i64
 }
 
-// The sum of no values with one.
+// The sum of one value.
 fn first_sum(value: i64) -> i128
     ensures value { result ≡ value }
     ensures sum { IsSum 1 result }
@@ -32,7 +32,7 @@ fn first_sum(value: i64) -> i128
     i128::from(value)
 }
 
-// Puts the values of a first capture in the place of the sums.
+// Replaces the sums by the values of a first capture.
 fn put_first(sums: &mut [i128], values: &[i64])
     requires { length sums.old ≡ length values.now }
     ensures value { sums.new ≡ values.now }
@@ -43,7 +43,7 @@ fn put_first(sums: &mut [i128], values: &[i64])
     }
 }
 
-// Adds the values of one capture more to the sums of `count` captures.
+// Adds the values of another capture to the sums of `count` captures.
 fn add_more(count: u32, sums: &mut [i128], values: &[i64])
     requires few { count ≤ 1000 }
     requires same { length sums.old ≡ length values.now }
@@ -56,7 +56,7 @@ fn add_more(count: u32, sums: &mut [i128], values: &[i64])
     }
 }
 
-// The sums of `count` captures, with the values of one more.
+// Adds the values of another capture to the sums of `count` captures. If `count` is 0, what stands in the sums is ignored.
 pub(crate) fn add_values(count: u32, sums: &mut [i128], values: &[i64])
     requires few { count ≤ 1000 }
     requires same { length sums.old ≡ length values.now }
@@ -71,7 +71,7 @@ pub(crate) fn add_values(count: u32, sums: &mut [i128], values: &[i64])
     }
 }
 
-// Puts the means of `size` captures in the place of the values.
+// Replaces the values by the means of `size` captures.
 pub(crate) fn put_means(size: u32, sums: &[i128], values: &mut [i64])
     requires some { 1 ≤ size }
     requires few { size ≤ 1000 }

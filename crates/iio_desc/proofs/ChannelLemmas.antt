@@ -1,4 +1,4 @@
--- A channel more.
+-- Another channel.
 use Rattle.std.proofs.Common.{◌≡◌, ℕ, ◌+◌, Bool, true, false, List, [], ◌∷◌, ◌++◌, length, get_or, AllPairs, sum_by, Option, Some, None, is_none, ◌&&◌, ◌==◌, refl, ap, ◌∙◌, zero-add}
 use Rattle.std.proofs.Math.Dec.{eqb-suc-zero}
 use Rattle.std.proofs.lemmas.Bool.{false≢true}
@@ -24,7 +24,7 @@ use Rattle.iio_desc.proofs.ListLemmas.{none_at}
 other_channel : (a c : Channel) → same_id (id_at a) (id_at c) ≡ false → same_channel a c ≡ false
 other_channel a c h = rw h refl
 
--- channels stay distinct with one more that has an ID of its own
+-- channels stay distinct with another one that has an ID of its own
 pub distinct_push : (channels : List Channel) (id : Kind × Suffix) (direction : Direction) (ty : Format)
     → AllPairs (λ (a b : Channel). same_channel a b ≡ false) channels
     → list_any (λ c. same_id (id_at c) id) channels ≡ false
@@ -34,13 +34,13 @@ distinct_push channels id direction ty distinct own =
     all_pairs_push (λ (a b : Channel). same_channel a b ≡ false) channels new distinct
     (λ k d lt. other_channel (get_or channels k d) new (none_at (λ c. same_id (id_at c) id) channels own k d lt))
 
--- the values of a row with a channel more
+-- the values of a row with another channel
 pub width_push : (channels : List Channel) (c : Channel)
     → sum_by (λ (x : Channel). x.ty.repeat) (channels ++ c ∷ []) ≡ sum_by (λ (x : Channel). x.ty.repeat) channels + c.ty.repeat
 width_push channels c =
     sum_by-append (λ (x : Channel). x.ty.repeat) channels (c ∷ []) ∙ ap (λ n. sum_by (λ (x : Channel). x.ty.repeat) channels + n) (zero-add c.ty.repeat)
 
--- what a device has not, whose only lines are channels
+-- what a device doesn't have if its only lines are channels
 pub record OnlyChannels (s : PartialDevice) : Type 0 where
   pub stamp : s.stamp ≡ None
   pub listed : s.listed ≡ []

@@ -1,4 +1,4 @@
--- A device that has no further line, among those before it.
+-- A device of which no further line follows, among those before it.
 use Rattle.std.proofs.Common.{◌≡◌, ℕ, ◌+◌, ◌<◌, ◌≤◌, ◌&&◌, Bool, true, false, not, nat_lt, List, [], ◌∷◌, ◌++◌, length, get_or, AllPairs, Option, Some, None, sum_by, ap, subst, sym, refl, arith, ◌∙◌, ltb-true, length-append, append-nil}
 use Rattle.std.proofs.lemmas.List.Quantifiers.{all_pairs_push}
 use Rattle.std.proofs.lemmas.List.Sums.{sum_by-append}
@@ -38,7 +38,7 @@ not_shared drivers devices None h i v within = refl
 not_shared drivers devices (Some k) h i v within =
     none_at (drives k) devices (is_false (list_any (drives k) devices) (both (nat_lt k drivers) (not (list_any (drives k) devices)) h).1) i v within
 
--- the devices stay well formed with it
+-- the devices stay well formed with another one
 sound_device : (triggers drivers earlier : ℕ) (devices : List DeviceRecord) (s : PartialDevice) (d : DeviceRecord)
     → All (IsWellFormedDevice triggers drivers) devices
     → FitsCurrent triggers drivers earlier devices s → d ≡ device_of s → 0 < length s.channels → IsRecording d.rows
@@ -55,7 +55,7 @@ sound_device triggers drivers earlier devices s d sound fits is some recording w
     } in
     All-push (IsWellFormedDevice triggers drivers) devices d sound (subst (λ (v : DeviceRecord). IsWellFormedDevice triggers drivers v) (sym is) own)
 
--- and no two have one driver
+-- no two of the devices with another one share a driver
 apart_device : (triggers drivers earlier : ℕ) (devices : List DeviceRecord) (s : PartialDevice) (d : DeviceRecord)
     → AllPairs (λ a b. share_driver a b ≡ false) devices
     → FitsCurrent triggers drivers earlier devices s → d ≡ device_of s → AllPairs (λ a b. share_driver a b ≡ false) (devices ++ d ∷ [])
@@ -66,7 +66,7 @@ apart_device triggers drivers earlier devices s d apart fits is =
 
 -- ---- a device of either kind
 
--- it is of one of them
+-- a device is of exactly one of the two kinds
 pub one_of_kind : (s : PartialDevice) (by : Direction) → length (device_by by s) + length (output_by by s) ≡ 1
 one_of_kind s Input = refl
 one_of_kind s Output = refl
@@ -137,7 +137,7 @@ count_with devices before = sum_by-append (λ (d : DeviceRecord). length d.rows.
 
 -- ---- averaging devices
 
--- they stay well formed with devices more
+-- averaging devices stay well formed if there are more devices
 averages_over : (fewer more : ℕ) (averages : List AverageRecord) → fewer ≤ more → All (IsWellFormedAverage fewer) averages
     → All (IsWellFormedAverage more) averages
 averages_over fewer more averages grow sound k x within =
@@ -151,7 +151,7 @@ averages_with devices others averages sound =
 
 -- ---- the device whose lines were being read, with the others
 
--- the devices xs and the output devices ys are those before it and it, with n rows
+-- the devices xs and the output devices ys are those before the current one and that one, with n rows
 pub record Ended (b : Inside) (xs : List DeviceRecord) (ys : List OutputRecord) (n : ℕ) : Type 0 where
   pub devices : xs ≡ b.devices.items ++ devices_of b.current
   pub outputs : ys ≡ b.outputs.items ++ outputs_of b.current

@@ -6,7 +6,7 @@ or_false : (a b : Bool) → (a || b) ≡ false → (a ≡ false) × (b ≡ false
 or_false true b h = (h, cc)
 or_false false b h = (refl, h)
 
--- where no element passes a test, none at a place does
+-- if no element passes a test, the element at a place doesn't
 pub none_at : {A : Type 0} (p : A → Bool) (xs : List A) → list_any p xs ≡ false → (k : ℕ) (d : A) → k < length xs → p (get_or xs k d) ≡ false
 none_at p [] h k d lt = absurd (omega arith)
 none_at p (x ∷ xs) h zero d lt = (or_false (p x) (list_any p xs) h).0

@@ -17,7 +17,7 @@ module _ {A : Type 0} (p : A → Bool) where
   counted_from i j [] = refl
   counted_from i j (x ∷ xs) = counted_by i j xs (p x) (counted_from i (j + 1) xs)
 
-  -- an element of the first list, or none of it and one of the second
+  -- an element of the first list, or no element of it and one of the second
   first_by : (i k : ℕ) (xs ys : List A) (b : Bool) → (position_from p (i + 1) xs ≡ Some k → position_from p (i + 1) (xs ++ ys) ≡ Some k)
       → cond b (Some i) (position_from p (i + 1) xs) ≡ Some k → cond b (Some i) (position_from p (i + 1) (xs ++ ys)) ≡ Some k
   first_by i k xs ys true next is = is
@@ -56,7 +56,7 @@ length_map_is : {A B : Type 0} (f : A → B) (xs : List A) → length (map f xs)
 length_map_is f [] = refl
 length_map_is f (x ∷ xs) = ap suc (length_map_is f xs)
 
--- the place of an element of three lists, each of which stands after the one before
+-- the place of an element in three lists, one after the other
 module _ {A B C H : Type 0} (f : A → H) (g : B → H) (h : C → H) (p : H → Bool) (xs : List A) (ys : List B) (zs : List C) where
   pub of_first : (k : ℕ) → Some k ≡ position (λ x. p (f x)) xs → Some k ≡ position p (map f xs ++ (map g ys ++ map h zs))
   of_first k is = sym (position_first p k (map f xs) (map g ys ++ map h zs) (position_map f p xs ∙ sym is))

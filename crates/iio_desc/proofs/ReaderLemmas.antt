@@ -1,4 +1,4 @@
--- What reading on makes of a reader.
+-- What reading another line makes of a reader.
 use Rattle.std.proofs.Common.{◌≡◌, ℕ, List, [], ◌∷◌, Some, Ok, Err, refl, ap, ◌∙◌}
 use Rattle.iio_text.specs.Words.{words_of, is_space, IsFirstWord, from_word}
 use Rattle.iio_text.specs.Lines.{words_of_line}

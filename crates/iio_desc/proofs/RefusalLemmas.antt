@@ -1,4 +1,4 @@
--- What holds where nothing was refused.
+-- What holds if nothing was refused.
 use Rattle.std.proofs.Common.{◌≡◌, ℕ, List, Bool, true, false, not, Option, Some, option_map, Result, Ok, refl, ap}
 use Rattle.std.specs.Prelude.{codes, bytes_eq, ⊤}
 use Rattle.iio_base.specs.Refusals.{ensure}

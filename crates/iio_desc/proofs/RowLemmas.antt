@@ -1,4 +1,4 @@
--- What reading the numbers of a row comes to.
+-- What the reading of a row's numbers gives.
 use Rattle.std.proofs.Common.{◌≡◌, ℕ, suc, ◌+◌, ◌-◌, ◌*◌, ◌<◌, true, ℤ, inl, inr, subst, get_or, option_map, add-one, length-append, ◌<ℤ◌, List, [], ◌∷◌, ◌++◌, length, Option, Some, None, Ok, Err, refl, sym, ap, ◌∙◌, arith, ◌==◌, eq-eqb, eqb-true}
 use Rattle.std.proofs.Math.Nat.{suc-mul}
 use Rattle.std.proofs.Math.Seq.{get_or-append_seam}
@@ -34,7 +34,7 @@ above_last moments m risen above i d within =
       | inr over ↦ let same : i ≡ last = omega arith in subst (λ (k : ℕ). get_or moments k d <ℤ m) (sym same) top
     ]
 
--- moments rise with one more above the last
+-- moments rise with another one above the last
 pub rises_push : (moments : List ℤ) (m : ℤ) → Rises moments → rises moments m ≡ true → Rises (moments ++ m ∷ [])
 rises_push moments m risen above i j d order within =
     let size = length-append moments (m ∷ []) in
@@ -45,14 +45,14 @@ rises_push moments m risen above i j d order within =
           rw (same, get_or-append_seam moments m [] d, get_or_append_left moments (m ∷ []) d i before) (above_last moments m risen above i d before)
     ]
 
--- a row more has a row's numbers more
+-- with another row there are a row's numbers more
 pub whole_push : (values vs : List ℤ) (moments : List ℤ) (m : ℤ) (width : ℕ) → length values ≡ length moments * width → length vs ≡ width
     → length (values ++ vs) ≡ length (moments ++ m ∷ []) * width
 whole_push values vs moments m width whole row =
     length-append values vs ∙ sym
     (ap (λ n. n * width) (length-append moments (m ∷ []) ∙ add-one (length moments)) ∙ suc-mul (length moments) width ∙ omega (arith, whole, row))
 
--- as many integers as words
+-- there are as many integers as words
 more_ints : (v : Option ℤ) (rest : Option (List ℤ)) (vs : List ℤ) → before v rest ≡ Some vs
     → (x : ℤ) × (xs : List ℤ) × (rest ≡ Some xs) × (vs ≡ x ∷ xs)
 more_ints None rest vs h = cc
@@ -65,7 +65,7 @@ length_read (w ∷ ws) vs h =
     let more = more_ints (int_of w) (ints_of ws) vs h in
     ap length more.3 ∙ ap suc (length_read ws more.1 more.2)
 
--- as many numbers after the others as words
+-- as many numbers as words are appended to the others
 pub length-ints_of : (words : List (List ℕ)) (old new : List ℤ) → option_map (λ (vs : List ℤ). old ++ vs) (ints_of words) ≡ Some new
     → (vs : List ℤ) × (length vs ≡ length words) × (new ≡ old ++ vs)
 length-ints_of words old new h =
@@ -133,7 +133,7 @@ pub reads_row : (moments : List ℤ) (words : List (List ℕ)) (m : ℤ) (vs : L
 reads_row moments [] m vs h = cc
 reads_row moments (t ∷ ts) m vs h = by_moment moments t ts m vs (int_of t) h
 
--- a row with as many values as it should have, or with another number
+-- a row with the required number of values, or with another number
 pub counted_row-right : (width : ℕ) (moments : List ℤ) (words : List (List ℕ)) → length words ≡ width + 1
     → counted_row width moments words ≡ row_of moments words
 counted_row-right width moments words h = rw (eq-eqb _ _ h) refl

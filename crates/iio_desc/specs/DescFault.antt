@@ -16,7 +16,7 @@ abbrev pub at_line : {A : Type 0} → ℕ → Result A Why → Result A DescFaul
 at_line n (Ok x) = Ok x
 at_line n (Err why) = Err (Line n why)
 
--- a fault is the one of a reading, or want of memory
+-- a fault is the one of a reading, or lack of memory
 abbrev pub Locates : {A : Type 0} → DescFault → Result A DescFault → Type 0
 Locates (Line n why) reading = reading ≡ Err (Line n why)
 Locates Mem reading = Unit {0}

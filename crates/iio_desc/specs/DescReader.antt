@@ -13,7 +13,7 @@ pub record Reading : Type 0 where
   pub lines : ℕ
   pub desc : PartialDesc
 
--- a reader is what it has read, or the fault that it answers from then on
+-- a reader is what it has read, or the fault that it returns from then on
 abbrev pub Reader : Type 0
 Reader = Result Reading DescFault
 
@@ -31,20 +31,20 @@ abbrev pub drivers_of : Reader → ℕ
 drivers_of (Ok reading) = reading.desc.drivers
 drivers_of (Err fault) = 0
 
--- after one line more; lines are numbered from 1
+-- after another line; lines are numbered from 1
 abbrev pub after_line : Reader → List ℕ → Reader
 after_line reader text = do
   reading ← reader
   desc ← at_line (reading.lines + 1) (line.after_line reading.desc text)
   Ok (record { lines = reading.lines + 1; desc = desc })
 
--- the description, where there is no further line. One that may not end yet is refused at the line after the last
+-- the description, if no further line follows. One that may not end yet is refused at the line after the last
 abbrev pub finished : Reader → Result Description DescFault
 finished reader = do
   reading ← reader
   at_line (reading.lines + 1) (line.desc_of reading.desc)
 
--- the description, at a line that ends it
+-- the description, given the line that ends it
 abbrev pub ended_by : Reader → List ℕ → Result Description DescFault
 ended_by reader text = do
   reading ← reader

@@ -1,4 +1,4 @@
--- What each line of a device says, and the first check that fails where it is refused, in the order of the checks.
+-- What each line of a device says, and the first check that fails if it is refused, in the order of the checks.
 -- `words` are those after the line's first word. (This project's own.)
 use Rattle.std.specs.Prelude.{ℕ, ◌+◌, ◌-◌, ◌^◌, ◌==◌, ◌&&◌, nat_lt, nat_le, Bool, true, false, not, ℤ, int_lt, pos, negsuc, List, [], ◌∷◌, ◌++◌, length, codes, Option, Some, None, is_none, option_map, option_and_then, Result, Ok, Err, slice_get, if◌then◌else◌}
 use Rattle.std.specs.List.{list_any}
@@ -38,12 +38,12 @@ unless_dash find word = if bytes_eq word (codes "-") then Some None else option_
 abbrev pub has_id : PartialDevice → Kind × Suffix → Bool
 has_id device id = list_any (λ channel. same_id (id_at channel) id) device.channels
 
--- one channel more, of the device's direction
+-- with another channel, of the device's direction
 abbrev pub with_channel : PartialDevice → Kind × Suffix → Format → PartialDevice
 with_channel device id format =
     record device { channels = device.channels ++ (record { kind = id.0; suffix = id.1; direction = device.direction; ty = format }) ∷ [] }
 
--- ... where there may be one more
+-- with another channel, if there may be another one
 abbrev pub channel_added : PartialDevice → Kind × Suffix → Format → Result PartialDevice Why
 channel_added device id format = do
   ensure (nat_lt (length device.channels) MAX_CHANNELS) Limit
@@ -89,12 +89,12 @@ listable channels bits = if nat_lt 0 bits && nat_lt bits (2 ^ channels) then Som
 abbrev pub listed_of : ℕ → ℕ → List ℕ → Option ℕ
 listed_of channels count word = option_and_then (λ bits. listable channels bits) (mask_of word count)
 
--- a value, and those that follow, where there are all of them
+-- a value, and those that follow, if all of them are there
 abbrev pub before : {A : Type 0} → Option A → Option (List A) → Option (List A)
 before None others = None
 before (Some x) others = option_map (λ xs. x ∷ xs) others
 
--- the masks that words say, where each says one
+-- the masks that words say, if each says one
 abbrev pub masks_of : ℕ → ℕ → List (List ℕ) → Option (List ℕ)
 masks_of channels count [] = Some []
 masks_of channels count (word ∷ words) = before (listed_of channels count word) (masks_of channels count words)
@@ -110,7 +110,7 @@ masks_line device words = do
 
 -- ---- rows
 
--- the integers that words say, where each says one
+-- the integers that words say, if each says one
 abbrev pub ints_of : List (List ℕ) → Option (List ℤ)
 ints_of [] = Some []
 ints_of (word ∷ words) = before (int_of word) (ints_of words)
@@ -160,7 +160,7 @@ free_driver drivers devices (negsuc k) = None
 abbrev pub driver_of : ℕ → List DeviceRecord → List ℕ → Option ℕ
 driver_of drivers devices word = option_and_then (λ k. free_driver drivers devices k) (int_of word)
 
--- `driver K`, of `drivers` handed-in drivers, after these devices
+-- `driver K`, of `drivers` handed-in drivers; `devices` are those before
 abbrev pub driver_line : ℕ → List DeviceRecord → PartialDevice → List (List ℕ) → Result PartialDevice Why
 driver_line drivers devices device words = do
   ensure (may_go_on device && may_drive device) Order

@@ -1,4 +1,4 @@
--- What each line of a description says, and the first check that fails where it is refused, in the order of the
+-- What each line of a description says, and the first check that fails if it is refused, in the order of the
 -- checks. (This project's own.)
 use Rattle.std.specs.Prelude.{ℕ, ◌&&◌, nat_lt, nat_le, Bool, false, not, ℤ, pos, negsuc, List, [], ◌∷◌, ◌++◌, length, codes, Option, Some, None, is_none, option_and_then, unwrap_or, Result, Ok, if◌then◌else◌}
 use Rattle.std.specs.Option.{ok_or}
@@ -67,7 +67,7 @@ window_within (negsuc n) = None
 abbrev pub window_of : List ℕ → Option ℕ
 window_of word = option_and_then (λ n. window_within n) (int_of word)
 
--- one averaging device more; the device before has no further line, and no line of a device may follow
+-- with another averaging device; the device before has no further line, and no line of a device may follow
 abbrev pub with_average : PartialDesc → List ℕ → ℕ → ℕ → PartialDesc
 with_average desc name base window = record desc {
   devices = all_devices desc;
@@ -104,7 +104,7 @@ keywords =
     ∷ (codes "driver", Driver) ∷ (codes "device", Device) ∷ (codes "output", Output)
     ∷ (codes "average", Average) ∷ (codes "trigger", Trigger) ∷ (codes "context", Context) ∷ []
 
--- the line that a word begins, among some
+-- the line that a word begins, among those of some keywords
 abbrev pub keyword_among : List (List ℕ × Keyword) → List ℕ → Option Keyword
 keyword_among [] word = None
 keyword_among (k ∷ ks) word = if bytes_eq word k.0 then Some k.1 else keyword_among ks word
@@ -142,7 +142,7 @@ line_by_words desc line (word ∷ words) = do
   keyword ← ok_or (keyword_of word) why.Word
   keyword_line desc keyword words (from_second_word line)
 
--- what the lines say with one more
+-- what the lines say with another one
 abbrev pub after_line : PartialDesc → List ℕ → Result PartialDesc Why
 after_line desc line = do
   words ← words_of_line line
@@ -150,7 +150,7 @@ after_line desc line = do
 
 -- ---- the end
 
--- the description, where there is no further line
+-- the description, if no further line follows
 abbrev pub desc_of : PartialDesc → Result Description Why
 desc_of desc = do
   ensure (is_current_whole desc.current) why.Order
@@ -170,7 +170,7 @@ begins_end (word ∷ words) = bytes_eq word (codes "%%")
 abbrev pub is_end : List ℕ → Bool
 is_end line = begins_end (words_of is_space line)
 
--- the description, at a line that ends it, in which no further word may stand
+-- the description, ended by a line in which no further word may stand
 abbrev pub desc_at_end : PartialDesc → List ℕ → Result Description Why
 desc_at_end desc line = do
   words_of_line line

@@ -10,7 +10,7 @@ use Rattle.iio_desc.specs.Description.{AverageRecord, DeviceRecord, OutputRecord
 use Rattle.iio_desc.specs.PartialDevice.{PartialDevice, device_of, has_channels, output_of}
 
 -- how many drivers are handed in, the context, the triggers so far, the devices and the output devices that have no further
--- line, the averaging devices, which have none beside their own, and the device whose lines are being read
+-- line, the averaging devices, which have none besides their own, and the device whose lines are being read
 pub record PartialDesc : Type 0 where
   pub drivers : ℕ
   pub context : Option (List ℕ)
@@ -53,7 +53,7 @@ all_outputs desc = desc.outputs ++ outputs_of desc.current
 abbrev pub device_count : PartialDesc → ℕ
 device_count desc = length (all_devices desc) + length (all_outputs desc) + length desc.averages
 
--- how many rows the devices have that have no further line
+-- the number of rows of the devices that have no further line
 abbrev pub earlier_rows : PartialDesc → ℕ
 earlier_rows desc = sum_by (λ device. length device.rows.moments) desc.devices
 

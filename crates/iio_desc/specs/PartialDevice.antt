@@ -8,7 +8,7 @@ use Rattle.iio_layout.specs.Shape.{ShapeRecord, same_direction, width_of, count_
 use Rattle.iio_desc.specs.declared.description.AttrDesc.{AttrDesc}
 use Rattle.iio_desc.specs.Description.{DeviceRecord, OutputRecord}
 
--- that of its channels is `Output` where its own line was `output`
+-- the direction is that of its channels: `Output` if its own line was `output`
 pub record PartialDevice : Type 0 where
   pub direction : Direction
   pub name : List ℕ
@@ -21,7 +21,7 @@ pub record PartialDevice : Type 0 where
   pub driver : Option ℕ
   pub attrs : List AttrDesc
 
--- a device whose own line was read alone
+-- a device of which only its own line was read
 abbrev pub new_device : Direction → List ℕ → Option ℕ → PartialDevice
 new_device direction name trigger =
     record {
@@ -50,7 +50,7 @@ row_width device = width_of (shape_of device)
 abbrev pub channel_count : PartialDevice → ℕ
 channel_count device = count_of (shape_of device)
 
--- the device, where it has no further line
+-- the device, if no further line of it follows
 abbrev pub device_of : PartialDevice → DeviceRecord
 device_of device = record {
   name = device.name;
@@ -61,7 +61,7 @@ device_of device = record {
   attrs = device.attrs;
 }
 
--- the output device, where it has no further line: it has channels alone
+-- the output device, if no further line of it follows: it has channels alone
 abbrev pub output_of : PartialDevice → OutputRecord
 output_of device = record { name = device.name; trigger = device.trigger; shape = record { channels = device.channels; stamp = None; listed = [] } }
 
@@ -71,7 +71,7 @@ output_of device = record { name = device.name; trigger = device.trigger; shape 
 abbrev pub has_channels : PartialDevice → Bool
 has_channels device = nat_lt 0 (length device.channels)
 
--- whether other lines than channels may follow: never at an output device
+-- whether lines other than channels may follow: never for an output device
 abbrev pub may_go_on : PartialDevice → Bool
 may_go_on device = same_direction device.direction Input && has_channels device
 

@@ -1,4 +1,4 @@
--- What contracts see of the fields of what reads lines. No public clause cites this file.
+-- What contracts see of the fields of the builders. No public clause cites this file.
 use Rattle.std.specs.Prelude.{◌≡◌, ℕ, ◌+◌, ◌*◌, ◌^◌, ◌<◌, ◌≤◌, true, false, length, map, All, AllPairs, IfSome, option_map, List}
 use Rattle.iio_scan_type.specs.declared.TheConstants.{MAX_CHANNEL_SIZE}
 use Rattle.iio_layout.specs.declared.shape.TheConstants.{MAX_CHANNELS}
@@ -50,7 +50,7 @@ partial_desc b = record {
   current = b.current;
 }
 
--- the device whose lines are being read: it is on one of the triggers or on none; its driver, where it has one, is handed in
+-- the device whose lines are being read: it is on one of the triggers or on none; its driver, if any, is handed in
 -- and no device before has it; and its rows and those of the devices before are no more than there may be
 pub record FitsCurrent (triggers drivers earlier : ℕ) (devices : List DeviceRecord) (device : PartialDevice) : Type 0 where
   pub attached : IfSome device.trigger (λ t. t < triggers)

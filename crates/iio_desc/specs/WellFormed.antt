@@ -15,7 +15,7 @@ use Rattle.iio_desc.specs.DeviceLines.{drives}
 abbrev pub HasPlaces : TriggerDesc → Type 0
 HasPlaces t = (0 < t.places) × (t.places ≤ MAX_PLACES)
 
--- a write of an attribute of the device, or of one of its `channels` channels
+-- a write to an attribute of the device, or of one of its `channels` channels
 pub record IsWrite (channels : ℕ) (a : AttrDesc) : Type 0 where
   pub channel : IfSome a.channel (λ c. c < channels)
   pub writable : is_writable a.attr ≡ true

@@ -1,4 +1,4 @@
-//! The lines of a description, by what they say.
+//! What the lines of a description say.
 
 ghost use Rattle.std.specs.Prelude.{◌≡◌, ◌+◌, ◌<◌, ◌≤◌, ◌++◌, length, vec_capacity, sum_by, option_map, All, Some, None, Ok, IfSome, IfOk, IfErr, OnOk, OnErr, true};
 ghost use Rattle.std.specs.List.{list_any};
@@ -129,7 +129,7 @@ fn is_current_whole(current: &Option<DeviceBuilder>) -> bool
     }
 }
 
-// How many devices a trigger can serve.
+// Reads how many devices a trigger can serve.
 fn read_places(word: &[u8]) -> Option<u8>
     ensures value { result ≡ places_of word.now }
     ensures within { IfSome result (λ places. (0 < places) × (places ≤ MAX_PLACES)) }
@@ -140,7 +140,7 @@ fn read_places(word: &[u8]) -> Option<u8>
     }
 }
 
-// How many captures make a mean.
+// Reads how many captures make a mean.
 fn read_window(word: &[u8]) -> Option<u32>
     ensures value { result ≡ window_of word.now }
     ensures within { IfSome result (λ window. (2 ≤ window) × (window ≤ MAX_WINDOW)) }
@@ -151,8 +151,7 @@ fn read_window(word: &[u8]) -> Option<u32>
     }
 }
 
-// The number that the device whose lines are being read gets after `before` others, where it has that name and is no output
-// device.
+// The number, after `before` others, of the device whose lines are being read, if it has that name and isn't an output device.
 fn current_number(current: &Option<DeviceBuilder>, before: usize, name: &[u8]) -> Option<usize>
     ensures value { result ≡ option_map (λ n. before + n) (input_number (devices_of current.now) name.now) }
     ensures within { IfSome result (λ number. number < before + length (devices_of current.now)) }
@@ -165,7 +164,7 @@ fn current_number(current: &Option<DeviceBuilder>, before: usize, name: &[u8]) -
     }
 }
 
-// The number of the device that an averaging device names: of a `device` line above.
+// The number of the device of a `device` line above that an averaging device names.
 fn read_base(devices: &[DeviceDesc], current: &Option<DeviceBuilder>, name: &[u8]) -> Option<u32>
     requires { length devices.now ≤ MAX_DEVICES }
     ensures value { result ≡ input_number (devices.now ++ devices_of current.now) name.now }
@@ -180,7 +179,7 @@ fn read_base(devices: &[DeviceDesc], current: &Option<DeviceBuilder>, name: &[u8
     }
 }
 
-// The number of the trigger that a word names; `-` is none.
+// The number of the trigger that a word names; `-` names none.
 fn read_trigger(triggers: &[TriggerDesc], word: &[u8]) -> Option<Option<u32>>
     requires { length triggers.now ≤ MAX_TRIGGERS }
     ensures value { result ≡ unless_dash (trigger_number triggers.now) word.now }
@@ -195,7 +194,7 @@ fn read_trigger(triggers: &[TriggerDesc], word: &[u8]) -> Option<Option<u32>>
     }
 }
 
-// The bytes that a quoted text means.
+// Reads the bytes that a quoted text means.
 fn read_quoted(alloc: Global, text: &[u8]) -> Result<Vec<u8>, LineFault>
     ensures ok { IfOk result (λ bytes. quoted_of text.now ≡ Some bytes.items) }
     ensures err { IfErr result (λ e. Tells e (ok_or (quoted_of text.now) Why.Text)) }
@@ -208,7 +207,7 @@ fn read_quoted(alloc: Global, text: &[u8]) -> Result<Vec<u8>, LineFault>
     }
 }
 
-// How many rows the devices have more with one that has no further line.
+// The number of rows of a device of which no further line follows.
 fn rows_of(device: &DeviceBuilder) -> usize
     ensures value { result ≡ sum_by (λ d. length d.rows.moments) (devices_of (Some device.now)) }
     ensures within { result ≤ length device.now.moments }
@@ -219,7 +218,7 @@ fn rows_of(device: &DeviceBuilder) -> usize
     }
 }
 
-// Puts a device that has no further line to those of its kind, among which there is room.
+// Adds a device of which no further line follows to those of its kind, among which there is room.
 fn put(
     alloc: Global,
     devices: &mut Vec<DeviceDesc>,
@@ -240,7 +239,7 @@ fn put(
     }
 }
 
-// The same for the device whose lines were read before, if any. The result is how many rows it has.
+// Adds the device whose lines were read before, if any, to those of its kind. Returns how many rows it has.
 fn put_before(
     alloc: Global,
     devices: &mut Vec<DeviceDesc>,
@@ -268,7 +267,7 @@ fn put_before(
 }
 
 impl DescBuilder {
-    /// Before the first line, with `drivers` handed-in drivers.
+    /// What the lines say before the first one, with `drivers` handed-in drivers.
     pub(crate) fn new(alloc: Global, drivers: u32) -> DescBuilder
         ensures { result ≡ new_desc drivers }
     {
@@ -296,8 +295,8 @@ impl DescBuilder {
             || is_current_named(&self.current, name)
     }
 
-    // How many rows the devices before have; with those of the device whose lines are being read they are no more
-    // than there may be.
+    // The number of rows of the devices before. With those of the device whose lines are being read they are at most
+    // `MAX_ROWS`.
     fn earlier_rows(&self) -> usize
         ensures value { result ≡ earlier_rows self.now }
         ensures room { IfSome self.now.current (λ device. earlier_rows self.now + length device.moments ≤ MAX_ROWS) }
@@ -346,7 +345,7 @@ impl DescBuilder {
         Ok(())
     }
 
-    // The next device, where there may be one more.
+    // Begins the next device. There are fewer than `MAX_DEVICES` devices.
     fn begin_device(
         &mut self,
         direction: Direction,
@@ -387,7 +386,7 @@ impl DescBuilder {
         Ok(())
     }
 
-    // One averaging device more, where there may be one more.
+    // Adds an averaging device. There are fewer than `MAX_DEVICES` devices.
     fn add_average(&mut self, name: Name, base: u32, window: u32) -> Result<(), AllocError>
         requires whole { is_current_whole self.old.current ≡ true }
         requires over { base < length (all_devices self.old) }
@@ -491,7 +490,7 @@ impl DescBuilder {
         }
     }
 
-    // A line by its first word, and by the text after that.
+    // Reads a line by its first word and the text after that.
     fn keyword_line(&mut self, keyword: Keyword, words: &[u8]) -> Result<(), LineFault>
         ensures line { Becomes result self.old self.new (keyword_line self.old keyword (words_of is_space words.now) (from_word words.now)) }
         ensures drivers { self.new.drivers ≡ self.old.drivers }
@@ -511,7 +510,7 @@ impl DescBuilder {
         }
     }
 
-    /// One line more, without its LF. A fault changes nothing.
+    /// Reads another line, without its LF. A fault changes nothing.
     pub(crate) fn line(&mut self, line: &[u8]) -> Result<(), LineFault>
         ensures line { Becomes result self.old self.new (after_line self.old line.now) }
         ensures drivers { self.new.drivers ≡ self.old.drivers }
@@ -523,7 +522,7 @@ impl DescBuilder {
         self.keyword_line(keyword, words)
     }
 
-    /// The description, where there is no further line.
+    /// The description, if no further line follows.
     pub(crate) fn finish(self) -> Result<Desc, LineFault>
         ensures desc { Gives result (desc_of self) }
         ensures sound { IfOk result (IsWellFormed self.drivers) }
@@ -552,7 +551,7 @@ impl DescBuilder {
         })
     }
 
-    /// The description at a line that ends it, without its LF.
+    /// The description, ended by a line without its LF.
     pub(crate) fn end(self, line: &[u8]) -> Result<Desc, LineFault>
         ensures desc { Gives result (desc_at_end self line.now) }
         ensures sound { IfOk result (IsWellFormed self.drivers) }

@@ -15,7 +15,7 @@ pub struct TriggerDesc {
     pub places: u8,
 }
 
-/// A write of an attribute before the first step: of the device, or of the channel of that number.
+/// A write to an attribute before the first step: to one of the device, or of the channel of that number.
 #[derive(Debug, Drop)]
 pub struct AttrDesc {
     pub channel: Option<u32>,
@@ -23,8 +23,8 @@ pub struct AttrDesc {
     pub value: Value,
 }
 
-/// A device: the number of its trigger, where it has one, its shape, what its sensor recorded, the number of its
-/// driver, where one is handed in, and the writes of its attributes in their order.
+/// A device: the number of its trigger, if any, its shape, what its sensor recorded, the number of its driver, if one is handed
+/// in, and the writes to its attributes in their order.
 #[derive(Debug, Drop)]
 pub struct DeviceDesc {
     pub name: Name,
@@ -43,7 +43,7 @@ impl Model for DeviceDesc {
     ghost view = { λ d. record { name = d.name; trigger = d.trigger; shape = d.shape; rows = d.rows; driver = d.driver; attrs = d.attrs.items } };
 }
 
-/// An output device: the number of its trigger, where it has one, and its shape.
+/// An output device: the number of its trigger, if any, and its shape.
 #[derive(Debug, Drop)]
 pub struct OutDesc {
     pub name: Name,
@@ -75,8 +75,8 @@ impl Model for AverageDesc {
     ghost view = { λ d. record { name = d.name; base = d.base; window = d.window } };
 }
 
-/// A whole description, each kind of devices in the order of its lines. It has at most 16 triggers and 16 devices. Output
-/// devices have the numbers after all devices, and averaging devices those after these.
+/// A whole description, with the devices of each kind in the order of their lines. It has at most 16 triggers and 16 devices.
+/// Output devices are numbered after all devices of `device` lines, and averaging devices after the output devices.
 #[derive(Debug, Drop)]
 pub struct Desc {
     pub context: Vec<u8>,
@@ -139,7 +139,7 @@ impl Desc {
     ghost use Rattle.std.specs.Prelude.{◌≡◌};
     ghost use Rattle.iio_desc.specs.Description.{find_trigger, find_device};
 
-    /// The number of the trigger of that name. None exactly where no trigger has it.
+    /// The number of the trigger of that name. Returns `None` exactly if no trigger has it.
     pub fn find_trigger(&self, name: &[u8]) -> Option<u32>
         ensures { result ≡ find_trigger self.now name.now }
     {
@@ -149,7 +149,7 @@ impl Desc {
         }
     }
 
-    /// The number of the device of that name, of whichever kind. None exactly where no device has it.
+    /// The number of the device of that name, of any kind. Returns `None` exactly if no device has it.
     pub fn find_device(&self, name: &[u8]) -> Option<u32>
         ensures { result ≡ find_device self.now name.now }
     {

@@ -31,7 +31,7 @@ use std::marker::Model;
 /// The device or output device whose lines are being read.
 #[derive(Drop)]
 pub(crate) struct DeviceBuilder {
-    // That of its channels.
+    // The direction of its channels.
     direction: Direction,
     name: Name,
     trigger: Option<u32>,
@@ -64,7 +64,7 @@ fn same_id(a: (Kind, Suffix), b: (Kind, Suffix)) -> bool
     a.0 == b.0 && a.1 == b.1
 }
 
-// The number of the channel of that ID.
+// The number of the channel that has this ID.
 fn channel_number(channels: &[Channel], id: (Kind, Suffix)) -> Option<usize>
     ensures value { result ≡ position (λ channel. same_id (id_at channel) id) channels.now }
     ensures within { IfSome result (λ c. c < length channels.now) }
@@ -74,7 +74,7 @@ fn channel_number(channels: &[Channel], id: (Kind, Suffix)) -> Option<usize>
         .position(|c| same_id((c.kind, c.suffix), id))
 }
 
-// The number of the channel whose ID is spelled so.
+// The number of the channel whose ID is spelled like this.
 fn find_channel(channels: &[Channel], id: &[u8]) -> Option<usize>
     ensures value { result ≡ option_and_then (λ id. position (λ channel. same_id (id_at channel) id) channels.now) (id_of id.now) }
     ensures within { IfSome result (λ c. c < length channels.now) }
@@ -115,7 +115,7 @@ fn read_stamp(words: &[u8]) -> Result<Endian, Why>
     read_endian(word).ok_or(Why::BadType)
 }
 
-// Whether a mask has a data channel, and only those.
+// Whether a mask has at least one data channel, and no other channel.
 fn is_listable(bits: u64, channels: u32) -> bool
     requires { channels ≤ 64 }
     ensures { result ≡ (nat_lt 0 bits && nat_lt bits (2 ^ channels)) }
@@ -123,7 +123,7 @@ fn is_listable(bits: u64, channels: u32) -> bool
     bits > 0 && (channels == 64 || bits < 1 << channels)
 }
 
-// A mask that can be listed, of `channels` data channels, which are `count` channels with the timestamp.
+// Reads a mask that can be listed, for a device of `channels` data channels and of `count` channels with the timestamp.
 fn read_mask(word: &[u8], channels: u32, count: u32) -> Option<Mask>
     requires some { 1 ≤ channels }
     requires within { channels ≤ count }
@@ -138,7 +138,7 @@ fn read_mask(word: &[u8], channels: u32, count: u32) -> Option<Mask>
     }
 }
 
-// The masks that words say, which are no more than `room`.
+// Reads the masks that words say. There are at most `room` words.
 fn read_masks(
     alloc: Global,
     words: &[u8],
@@ -163,7 +163,7 @@ fn read_masks(
     Ok(masks)
 }
 
-// The integers that words say, put after those that are there. After an Err some may be.
+// Appends the integers that words say. After an `Err` some may have been appended.
 fn push_ints(ints: &mut Vec<i64>, words: &[u8]) -> Result<(), LineFault>
     ensures ok { OnOk result (option_map (λ vs. ints.old.items ++ vs) (ints_of (words_of is_space words.now)) ≡ Some ints.new.items) }
     ensures err { IfErr result (λ e. Tells e (ok_or (ints_of (words_of is_space words.now)) Why.Number)) }
@@ -178,7 +178,7 @@ fn push_ints(ints: &mut Vec<i64>, words: &[u8]) -> Result<(), LineFault>
     Ok(())
 }
 
-// Whether a moment is after the last of those before it, if any.
+// Whether a moment is after the last of the moments before it, if any.
 fn rises(moments: &[i64], moment: i64) -> bool
     ensures { result ≡ rises moments.now moment }
 {
@@ -188,7 +188,7 @@ fn rises(moments: &[i64], moment: i64) -> bool
     }
 }
 
-// The moment of a row, whose values are put after those that are there. After an Err some may be.
+// Reads a row: returns its moment and appends its values. After an `Err` some may have been appended.
 fn read_row(moments: &[i64], values: &mut Vec<i64>, words: &[u8]) -> Result<i64, LineFault>
     ensures ok { IfOk result (λ moment. row_of moments.now (words_of is_space words.now) ≡ Ok (moment, drop (vec_len values.old) values.new.items)) }
     ensures err { IfErr result (λ e. Tells e (row_of moments.now (words_of is_space words.now))) }
@@ -201,8 +201,8 @@ fn read_row(moments: &[i64], values: &mut Vec<i64>, words: &[u8]) -> Result<i64,
     Ok(moment)
 }
 
-// The moment of a row with `width` values, which are put after those that are there. The words are counted by the values that
-// are read, and by themselves only where another check fails. An Err leaves the values that were there.
+// Reads a row of `width` values: returns its moment and appends its values. The words are counted by the values that are read,
+// and by themselves only if another check fails. After an `Err` `values` is as it was.
 fn push_row(
     moments: &[i64],
     values: &mut Vec<i64>,
@@ -237,7 +237,7 @@ fn is_used(k: u32, devices: &[DeviceDesc]) -> bool
     devices.iter().any(|d| drives(k, d))
 }
 
-// Whether driver `k` is one of `drivers` that are handed in, and no device has it.
+// Whether driver `k` is one of `drivers` handed-in drivers, and no device has it.
 fn is_free(drivers: u32, devices: &[DeviceDesc], k: u32) -> bool
     ensures { result ≡ is_free drivers devices.now k }
 {
@@ -266,7 +266,7 @@ fn scope_at(channel: Option<u32>) -> Scope
 }
 
 impl DeviceBuilder {
-    /// A device whose own line was read alone.
+    /// A device of which only its own line was read.
     pub(crate) fn new(
         alloc: Global,
         direction: Direction,
@@ -290,14 +290,14 @@ impl DeviceBuilder {
         }
     }
 
-    /// Whether it has that name.
+    /// Whether the device has that name.
     pub(crate) fn is_named(&self, name: &[u8]) -> bool
         ensures { result ≡ bytes_eq self.now.name name.now }
     {
         self.name.is(name)
     }
 
-    /// Whether it has a channel.
+    /// Whether the device has a channel.
     pub(crate) fn has_channels(&self) -> bool
         ensures { result ≡ has_channels self.now }
     {
@@ -311,7 +311,7 @@ impl DeviceBuilder {
         self.direction
     }
 
-    // Whether other lines than channels may follow: never at an output device.
+    // Whether lines other than channels may follow: never for an output device.
     fn may_go_on(&self) -> bool
         ensures { result ≡ may_go_on self.now }
     {
@@ -325,7 +325,7 @@ impl DeviceBuilder {
         self.moments.len()
     }
 
-    /// The device, where it has no further line.
+    /// The device, if no further line of it follows.
     pub(crate) fn into_device(self) -> DeviceDesc
         requires { has_channels self ≡ true }
         ensures value { result ≡ device_of self }
@@ -359,7 +359,7 @@ impl DeviceBuilder {
         }
     }
 
-    /// The output device, where it has no further line.
+    /// The output device, if no further line of it follows.
     pub(crate) fn into_output(self, alloc: Global) -> OutDesc
         requires { has_channels self ≡ true }
         ensures { result ≡ output_of self }
@@ -384,7 +384,7 @@ impl DeviceBuilder {
         }
     }
 
-    // Whether it has no masks, row, driver or attr line yet.
+    // Whether the device has no masks, row, driver or attr line yet.
     fn may_list(&self) -> bool
         ensures { result ≡ may_list self.now }
     {
@@ -394,21 +394,21 @@ impl DeviceBuilder {
             && self.attrs.is_empty()
     }
 
-    // Whether its only lines so far are channels.
+    // Whether channels are its only lines so far.
     fn has_only_channels(&self) -> bool
         ensures { result ≡ has_only_channels self.now }
     {
         self.stamp.is_none() && self.may_list()
     }
 
-    // Whether it has no row and no driver line yet.
+    // Whether the device has no row and no driver line yet.
     fn may_drive(&self) -> bool
         ensures { result ≡ may_drive self.now }
     {
         self.moments.is_empty() && self.driver.is_none()
     }
 
-    // How many channels there are, with the timestamp.
+    // The number of channels, with the timestamp.
     fn count(&self) -> u32
         ensures value { result ≡ channel_count self.now }
         ensures few { channel_count self.now ≤ 64 }
@@ -417,7 +417,7 @@ impl DeviceBuilder {
         self.channels.len() as u32 + u32::from(self.stamp.is_some())
     }
 
-    // One channel more, of an ID that no channel has.
+    // Adds a channel, of an ID that no channel has.
     fn push_channel(&mut self, id: (Kind, Suffix), ty: ScanType) -> Result<(), AllocError>
         requires own { has_id self.old id ≡ false }
         requires fresh { has_only_channels self.old ≡ true }
@@ -435,7 +435,7 @@ impl DeviceBuilder {
         Ok(())
     }
 
-    // The same, where there may be one more.
+    // Adds a channel, of an ID that no channel has; refused as `limit` if there may be no more.
     fn add_channel(&mut self, id: (Kind, Suffix), ty: ScanType) -> Result<(), LineFault>
         requires own { has_id self.old id ≡ false }
         requires fresh { has_only_channels self.old ≡ true }
@@ -489,7 +489,7 @@ impl DeviceBuilder {
         Ok(())
     }
 
-    /// `row T v ..`; the devices before have `earlier` rows.
+    /// `row T v ..`; the devices before this one have `earlier` rows.
     pub(crate) fn row_line(&mut self, earlier: usize, words: &[u8]) -> Result<(), LineFault>
         requires { earlier + length self.old.moments ≤ MAX_ROWS }
         ensures line { Becomes result self.old self.new (row_line earlier self.old (words_of is_space words.now)) }
@@ -510,7 +510,7 @@ impl DeviceBuilder {
         Ok(())
     }
 
-    /// `driver K`, of `drivers` handed-in drivers, after these devices.
+    /// `driver K`, of `drivers` handed-in drivers; `devices` are the devices before this one.
     pub(crate) fn driver_line(
         &mut self,
         drivers: u32,
@@ -529,7 +529,7 @@ impl DeviceBuilder {
         Ok(())
     }
 
-    // The channel whose attribute a line writes, or none for the device's own attributes.
+    // The channel whose attribute a line writes, or `None` for the device's own attributes.
     fn read_channel(&self, word: &[u8]) -> Option<Option<u32>>
         ensures value { result ≡ unless_dash (channel_of (shape_of self.now)) word.now }
         ensures within { IfSome result (λ channel. IfSome channel (λ c. c < length self.now.channels)) }

@@ -31,7 +31,7 @@ pub enum Keyword {
 }
 
 impl Keyword {
-    /// The line that a word begins. Rows come first, since there are the most of them.
+    /// The line that a word begins. Rows are tried first, since they are the most frequent.
     pub fn of(word: &[u8]) -> Option<Keyword>
         ensures { result ≡ keyword_of word.now }
     {

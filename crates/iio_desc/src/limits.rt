@@ -1,4 +1,4 @@
-//! How much a description may have, beside what a shape may have.
+//! The limits of a description, besides those of a shape.
 
 /// The most triggers.
 pub const MAX_TRIGGERS: usize = 16;

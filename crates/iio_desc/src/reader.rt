@@ -1,4 +1,4 @@
-//! A description from its lines, one after another, and from a text.
+//! Reads a description from its lines, one after another, or from a text.
 
 ghost use Rattle.std.specs.Prelude.{◌≡◌, ◌+◌, ◌-◌, ◌^◌, ◌<◌, ◌≤◌, length, Ok, Err, IfOk, IfErr, OnOk, IsOk};
 ghost use Rattle.iio_text.specs.Lines.{lines_of};
@@ -21,17 +21,17 @@ use thiserror::Error;
 /// Why a description isn't read.
 #[derive(Clone, Copy, Debug, PartialEq, Eq, Error)]
 pub enum DescFault {
-    /// The first line that is refused, counted from 1, and its first check that fails. A description that may not end
-    /// yet is refused at the line after its last.
+    /// The first line that is refused, counted from 1, and its first check that fails. If a description may not end
+    /// yet, the line after its last is refused.
     #[error("line {number} refused: {}", .why.text())]
     Line { number: u32, why: Why },
-    /// Want of memory.
+    /// Memory ran out.
     #[error("out of memory")]
     Mem,
 }
 
 impl DescFault {
-    // What keeps a line from being read, at its number.
+    // The fault of a line, with the line's number.
     fn at(number: u32, fault: LineFault) -> DescFault
         ensures { result ≡ fault_at number fault }
     {
@@ -60,8 +60,8 @@ pub fn is_end(line: &[u8]) -> bool
     }
 }
 
-/// Reads the lines of a description one after another. Contracts see it as what the lines so far say; or as the fault
-/// that it answered, and answers from then on.
+/// Reads the lines of a description one after another. Contracts see it as what the lines so far say, or as the fault
+/// that it returned, and returns from then on.
 #[derive(Drop)]
 pub struct DescReader {
     builder: DescBuilder,
@@ -93,8 +93,8 @@ impl DescReader {
         })
     }
 
-    /// Reads one line more, without its LF. The first fault, the line's first check that fails or want of memory, is
-    /// the answer of each later call too.
+    /// Reads another line, without its LF. The first fault, which is the line's first check that fails or lack of memory, is
+    /// returned by each later call too.
     pub fn line(&mut self, bytes: &[u8]) -> Result<(), DescFault>
         requires { line_count self.old < 2 ^ 32 - 2 }
         ensures ok { OnOk result ((self.new ≡ after_line self.old bytes.now) × IsOk self.new) }
@@ -134,7 +134,7 @@ impl DescReader {
         self.builder.device_count()
     }
 
-    /// The description that the lines make, where there is no further one. After a fault it is that fault.
+    /// Returns the description that the lines make, if no further line follows. After a fault it returns that fault.
     pub fn finish(self) -> Result<Desc, DescFault>
         ensures ok { IfOk result (λ desc. finished self ≡ Ok desc) }
         ensures err { IfErr result (λ fault. Locates fault (finished self)) }
@@ -155,9 +155,9 @@ impl DescReader {
         }
     }
 
-    /// The description at a line that ends it, without its LF. The line is refused as `long` or `text` as any line is, then as
-    /// `order` where the description may not end yet, then as `count` where a further word stands in it. After a fault it is
-    /// that fault.
+    /// Returns the description, given the line that ends it, without its LF. The line is refused as `long` or `text` like any
+    /// line, then as `order` if the description may not end yet, then as `count` if a further word stands in it. After a fault
+    /// it returns that fault.
     pub fn end(self, line: &[u8]) -> Result<Desc, DescFault>
         ensures ok { IfOk result (λ desc. ended_by self line.now ≡ Ok desc) }
         ensures err { IfErr result (λ fault. Locates fault (ended_by self line.now)) }
@@ -180,9 +180,9 @@ impl DescReader {
 }
 
 /// Reads the description that a text says, which may use as many drivers as are handed in. LF ends a line, and a last
-/// line without LF counts where it isn't empty.
+/// line without LF counts if it isn't empty.
 ///
-/// A line whose first word is `%%` is refused here: it means something only where more is read after the description.
+/// A line whose first word is `%%` is refused here: it means something only if more is read after the description.
 pub fn read_desc(alloc: Global, text: &[u8], drivers: u32) -> Result<Desc, DescFault>
     requires { length (lines_of text.now) ≤ 2 ^ 32 - 2 }
     ensures ok { IfOk result (λ desc. read_of drivers text.now ≡ Ok desc) }

@@ -1,4 +1,4 @@
--- Lists no two of whose elements have one key: groups by their masks, members by their numbers.
+-- Lists in which no two elements have the same key: groups by their masks, members by their numbers.
 use Rattle.std.proofs.Common.{◌≡◌, ◌==◌, ◌||◌, ◌&&◌, ℕ, zero, suc, ◌+◌, ◌<◌, Bool, true, false, not, List, [], ◌∷◌, ◌++◌, length, find, Some, take, drop, get_or, slice_set, map, filter, if◌then◌else◌, subst, refl, sym, ap, ◌∙◌, arith}
 use Rattle.std.specs.Bool.{⊤}
 use Rattle.std.proofs.lemmas.Bool.{false≢true}
@@ -40,12 +40,12 @@ module _ {A : Type 0} (key : A → ℕ) where
   abbrev pub AreDistinct : List A → Type 0
   AreDistinct xs = IsDistinct (λ a b. a == b) (map key xs)
 
-  -- a change that keeps keys keeps which are there
+  -- a change that keeps the keys of elements keeps which keys are there
   pub kept_key : (f : A → A) → ((x : A) → key (f x) ≡ key x) → (xs : List A) (k : ℕ) → has_key (map f xs) k ≡ has_key xs k
   kept_key f keeps [] k = refl
   kept_key f keeps (x ∷ xs) k = rw (keeps x, kept_key f keeps xs k) refl
 
-  -- ---- the same, by the question whether a key is there
+  -- ---- the same, by whether a key is there
 
   abbrev AreApart : List A → Type 0
   AreApart [] = ⊤
@@ -125,7 +125,7 @@ module _ {A : Type 0} (key : A → ℕ) where
   pub distinct_filter : (test : A → Bool) (xs : List A) → AreDistinct xs → AreDistinct (filter test xs)
   distinct_filter test xs distinct = to_distinct (filter test xs) (apart_filter test xs (to_apart xs distinct))
 
-  -- ---- one element less
+  -- ---- an element is removed
 
   all_kept : (xs : List A) (k : ℕ) → has_key xs k ≡ false → filter (λ y. not (key y == k)) xs ≡ xs
   all_kept [] k none = refl
@@ -154,14 +154,14 @@ module _ {A : Type 0} (key : A → ℕ) where
       let rest = removed_apart zs k x apart.1 (omega arith) at in
       subst (λ n. z ∷ take k zs ++ drop n (z ∷ zs) ≡ filter (λ y. not (key y == key x)) (z ∷ zs)) (sym more) (rw (other) (ap (λ ys. z ∷ ys) rest))
 
-  -- what stays are those of other keys
+  -- the elements that stay are those of other keys
   pub removed_is : (xs : List A) (k : ℕ) (x : A) → AreDistinct xs → k < length xs → x ≡ get_or xs k x
       → take k xs ++ drop (k + 1) xs ≡ filter (λ y. not (key y == key x)) xs
   removed_is xs k x distinct within at = removed_apart xs k x (to_apart xs distinct) within at
 
-  -- ---- one element changed
+  -- ---- an element is changed
 
-  -- where no element has the key, none is
+  -- if no element has the key, none is changed
   none_changed : (f : A → A) (xs : List A) (k : ℕ) → has_key xs k ≡ false → map (λ y. if key y == k then f y else y) xs ≡ xs
   none_changed f [] k none = refl
   none_changed f (x ∷ xs) k none =
@@ -180,16 +180,16 @@ module _ {A : Type 0} (key : A → ℕ) where
       let other : (key z == key x) ≡ false = eq_flips (key z) (key x) ∙ absent_at zs k (key z) x apart.0 (omega arith) at in
       rw other (ap (λ ys. z ∷ ys) (changed_apart f zs k x apart.1 (omega arith) at))
 
-  -- the one of that key is, and the others stay
+  -- the element of that key is changed, and the others stay
   pub changed_is : (f : A → A) (xs : List A) (k : ℕ) (x : A) → AreDistinct xs → k < length xs → x ≡ get_or xs k x
       → slice_set xs k (f x) ≡ map (λ y. if key y == key x then f y else y) xs
   changed_is f xs k x distinct within at = changed_apart f xs k x (to_apart xs distinct) within at
 
-  -- a key that is in none of the elements is in none of fewer
+  -- a key that no element has isn't a key of some of them either
   pub none_fewer : (test : A → Bool) (xs : List A) (k : ℕ) → has_key xs k ≡ false → has_key (filter test xs) k ≡ false
   none_fewer test xs k none = less_key test xs k none
 
-  -- ---- what stands at a place
+  -- ---- the element at a place
 
   there_at : (xs : List A) (k : ℕ) (d : A) → k < length xs → has_key xs (key (get_or xs k d)) ≡ true
   there_at [] k d within = absurd (omega arith)
@@ -216,7 +216,7 @@ module _ {A : Type 0} (key : A → ℕ) where
       let other = other_key x xs k d apart.0 (omega arith) in
       rw other (found_apart xs k d apart.1 (omega arith))
 
-  -- it is what is found by its key
+  -- it is the one that is found by its key
   pub found_at : (xs : List A) (k : ℕ) (d : A) → AreDistinct xs → k < length xs → find (λ x. key x == key (get_or xs k d)) xs ≡ Some (get_or xs k d)
   found_at xs k d distinct within = found_apart xs k d (to_apart xs distinct) within
 
@@ -240,7 +240,7 @@ module _ {A : Type 0} (key : A → ℕ) where
       let other = other_key x xs k d apart.0 (omega arith) in
       rw other (passes_apart test xs k d apart.1 (omega arith))
 
-  -- it alone is asked
+  -- only that element is asked
   pub passes_at : (test : A → Bool) (xs : List A) (k : ℕ) (d : A) → AreDistinct xs → k < length xs
       → list_any (λ x. key x == key (get_or xs k d) && test x) xs ≡ test (get_or xs k d)
   passes_at test xs k d distinct within = passes_apart test xs k d (to_apart xs distinct) within

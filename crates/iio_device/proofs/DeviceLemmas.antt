@@ -26,14 +26,14 @@ module _ {Q P : Type 0} (taken lost size capacity : Q → ℕ) (offer_gives : Q 
       → AreOffered (driver plug) moment old new → AreOffered (driver_in driver plugged) t old new
   offered_by plugged plug moment t old new is at offered = rw is (subst (λ m. AreOffered (driver plug) m old new) at offered)
 
--- a device whose site alone changes
+-- a device with only its site changed
 pub same_but : {Q : Type 0} (name : List ℕ) (number : ℕ) (standing : Standing Q) (totals : Totals) (a b : Site ℕ) → a ≡ b
     → (let x : DeviceView Q = record { name = name; number = number; standing = standing; totals = totals; site = a } in x)
     ≡ (let y : DeviceView Q = record { name = name; number = number; standing = standing; totals = totals; site = b } in y)
 same_but {Q = Q} name number standing totals a b same =
     ap (λ (s : Site ℕ). (let x : DeviceView Q = record { name = name; number = number; standing = standing; totals = totals; site = s } in x)) same
 
--- a device that was made of a description
+-- a device that was made from a description
 pub made : {Q : Type 0} (inside desc : DeviceRecord) (number : ℕ) (driver : Driver) (standing : Standing Q) (totals : Totals) (site : Site ℕ)
     (attrs : List AttrDesc) → inside ≡ desc
     → standing ≡ nobody inside.shape → totals ≡ no_totals → site ≡ first_site inside.shape inside.trigger driver attrs → attrs ≡ inside.attrs
@@ -47,7 +47,7 @@ made {Q = Q} inside desc number driver standing totals site attrs is alone none 
     (first ∙ ap (λ (attrs : List AttrDesc). first_site inside.shape inside.trigger driver attrs) same)
     ∙ ap (λ (d : DeviceRecord). new_view {Q = Q} d number driver) is
 
--- its lines of attributes are right
+-- its attribute lines are valid
 pub right_writes : (inside desc : DeviceRecord) → inside ≡ desc → All (IsWrite (length desc.shape.channels)) desc.attrs
     → All (IsWrite (length inside.shape.channels)) inside.attrs
 right_writes inside desc is right = rw is right

@@ -1,4 +1,4 @@
--- Why a member isn't taken.
+-- Why a member is refused.
 use Rattle.std.proofs.Common.{◌≡◌, Option, Some, None, Err}
 use Rattle.iio_base.specs.Refusals.{unless_refused}
 use Rattle.iio_device.specs.declared.roster.JoinFault.{JoinFault}

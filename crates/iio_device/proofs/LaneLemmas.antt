@@ -11,7 +11,7 @@ use Rattle.std.proofs.Math.Nat.{mod-eq_of_lt}
 abbrev pub added : ℕ → List ℕ → ℕ
 added n bytes = fold_l (act2 wrap_add (s_int w16) (s_int w16) (s_int w16)) n (map (act1 (cast unsigned unsigned w16) (s_int w8) (s_int w16)) bytes)
 
--- few of them don't go round
+-- the sum of few of them doesn't overflow
 pub added-sum : (n : ℕ) (bytes : List ℕ) → ((i : ℕ) → Fits w8 (get_or bytes i 0)) → n + 255 * length bytes < 65536 → added n bytes ≡ fold (λ a b. a + b) n bytes
 added-sum n [] byte few = refl
 added-sum n (b ∷ bytes) byte few =

@@ -10,12 +10,12 @@ use Rattle.iio_mask.proofs.UnionLemmas.{union_of_all-more, within_first, within_
 use Rattle.iio_device.specs.declared.membership.Membership.{Membership}
 use Rattle.iio_device.specs.Members.{is_wanted, mask_of, masks_of}
 
--- one mask more
+-- another mask
 pub union_push : (masks : List ℕ) (mask : ℕ) → union_of_all (masks ++ mask ∷ []) ≡ union_of mask (union_of_all masks)
 union_push masks mask = union_of_all-more masks [] mask ∙ ap (λ ms. union_of mask (union_of_all ms)) (append-nil masks)
 
 module _ {Q : Type 0} where
-  -- one member more
+  -- another member
   pub union_more : (members : List (Membership Q)) (k : ℕ) (m : Membership Q) → k < length members → m ≡ get_or members k m
       → union_of_all (masks_of (take (k + 1) members)) ≡ union_of m.mask.bits (union_of_all (masks_of (take k members)))
   union_more members k m within at =
@@ -31,13 +31,13 @@ some_more P P' None h more = tt
 some_more P P' (Some x) h more = more x h
 
 module _ {Q : Type 0} where
-  -- masks below a number of channels have no union above it
+  -- the union of masks below a number of channels is below it
   pub union_below : (n : ℕ) (members : List (Membership Q)) → All (λ (m : Membership Q). m.mask.bits < 2 ^ n) members → union_of_all (masks_of members) < 2 ^ n
   union_below n [] all = pow_pos n
   union_below n (m ∷ ms) all = or_lt n m.mask.bits (union_of_all (masks_of ms)) (All-head (λ (x : Membership Q). x.mask.bits < 2 ^ n) m ms all)
       (union_below n ms (All-tail (λ (x : Membership Q). x.mask.bits < 2 ^ n) m ms all))
 
-  -- the mask of a member lies within the union
+  -- a member's mask is within the union
   pub wanted_within : (members : List (Membership Q)) (mask : ℕ) → is_wanted members mask ≡ true → is_within mask (union_of_all (masks_of members)) ≡ true
   wanted_within [] mask wanted = absurd (cc)
   wanted_within (m ∷ ms) mask wanted = by (λ w. wanted_within ms mask w) (m.mask.bits == mask) refl wanted

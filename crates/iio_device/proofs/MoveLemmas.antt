@@ -5,7 +5,7 @@ use Rattle.std.proofs.lemmas.List.Elements.{All-get_or}
 use Rattle.iio_device.specs.Moves.{MovedBelow}
 
 module _ {A : Type 0} (R : A → A → Type 0) where
-  -- one more has changed
+  -- another element has changed
   pub moved_more : (k : ℕ) (first now : List A) (x y d : A) → MovedBelow R k first now → k < length now → x ≡ get_or now k d → R x y
       → MovedBelow R (k + 1) first (slice_set now k y)
   moved_more zero first [] x y d moved within at r = absurd (omega arith)
@@ -21,7 +21,7 @@ module _ {A : Type 0} (R : A → A → Type 0) where
       let more : suc k + 1 ≡ suc (k + 1) = omega arith in
       subst (λ n. MovedBelow R n (w ∷ ws) (z ∷ slice_set zs k y)) (sym more) (moved.0, moved_more k ws zs x y d moved.1 (omega arith) at r)
 
-  -- all have
+  -- all elements have changed
   pub moved_all : (k : ℕ) (first now : List A) → MovedBelow R k first now → length first ≤ k → AllZip R first now
   moved_all zero [] [] moved all = tt
   moved_all zero [] (y ∷ ys) moved all = absurd (cc)
@@ -37,7 +37,7 @@ module _ {A : Type 0} (R : A → A → Type 0) where
   moved_length (suc k) (x ∷ xs) [] moved = absurd moved
   moved_length (suc k) (x ∷ xs) (y ∷ ys) moved = ap suc (moved_length k xs ys moved.1)
 
-  -- those that have not are as they were
+  -- the elements that haven't changed are as they were
   pub moved_rest : (k i : ℕ) (first now : List A) (d : A) → MovedBelow R k first now → k ≤ i → get_or now i d ≡ get_or first i d
   moved_rest zero i first now d moved after = ap (λ xs. get_or xs i d) moved
   moved_rest (suc k) i [] now d moved after = ap (λ xs. get_or xs i d) moved
@@ -45,14 +45,14 @@ module _ {A : Type 0} (R : A → A → Type 0) where
   moved_rest (suc k) zero (x ∷ xs) (y ∷ ys) d moved after = absurd (omega arith)
   moved_rest (suc k) (suc i) (x ∷ xs) (y ∷ ys) d moved after = moved_rest k i xs ys d moved.1 (omega arith)
 
-  -- and what holds of all at first holds of the next
+  -- what holds of all elements at first holds of the next one
   pub moved_next : (P : A → Type 0) (k : ℕ) (first now : List A) (x : A) → All P first → MovedBelow R k first now → k < length now → x ≡ get_or now k x → P x
   moved_next P k first now x all moved within at =
       let long = moved_length k first now moved in
       subst P (sym (at ∙ moved_rest k k first now x moved (omega arith))) (All-get_or P first k x (omega arith) all)
 
 module _ {A : Type 0} (f : A → A) where
-  -- each by the same function
+  -- each element changes by the same function
   pub zip_is_map : (xs ys : List A) → AllZip (λ x y. y ≡ f x) xs ys → ys ≡ map f xs
   zip_is_map [] [] zip = refl
   zip_is_map [] (y ∷ ys) zip = absurd zip

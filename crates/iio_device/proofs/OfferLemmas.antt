@@ -41,7 +41,7 @@ rule_contains shape wanted m found = by (matching_mask shape.listed (data_part s
 pub laid_mask : (active : ℕ) (union : List ℕ) (g : GroupRecord) → (laid_out active union g).mask ≡ g.mask
 laid_mask active union g = elim (cases_Bool (g.mask == active)) [ inl own ↦ rw own refl | inr other ↦ rw other refl ]
 
--- what is made of a table's scan by the group of a mask that isn't the active one
+-- what the group of a mask that isn't the active one makes of a table's scan
 scan_found : (shape : ShapeRecord) (active mask : ℕ) (union : List ℕ) (groups : List GroupRecord) → (mask == active) ≡ false → All (IsGroup shape active) groups
     → has_group groups mask ≡ true
     → scan_under (map (laid_out active union) groups) mask ≡ copied (table_of shape active mask).entries union (scan_size shape mask)
@@ -92,7 +92,7 @@ scan_found-is shape active mask union groups values t each there within wide is 
           ∙ table_scans shape active mask values t (has-within mask active within) wide)
     ]
 
--- the scan of a group that stands at a place
+-- the scan of the group at a place
 pub scan_at : (groups : List GroupRecord) (place : ℕ) (d : GroupRecord) → AreDistinct (λ (g : GroupRecord). g.mask) groups → place < length groups
     → scan_under groups (slice_index_or groups place d).mask ≡ (slice_index_or groups place d).scan
 scan_at groups place d apart within =
@@ -139,7 +139,7 @@ module _ {Q : Type 0} (R : Membership Q → Membership Q → Type 0) (same_mask 
   kept_nil (x ∷ xs) [] zip = absurd zip
   kept_nil (x ∷ xs) (y ∷ ys) zip = refl
 
-  -- they are sound over the same groups, where each is sound by itself
+  -- they are sound with the same groups, if each is sound by itself
   pub sound_moves : (taken lost size : Q → ℕ) (shape : ShapeRecord) (active : Option Mask) (captures captures' next : ℕ) (old new : List (Membership Q))
       (groups : List GroupRecord)
       → ((a b : Membership Q) → IsMember taken lost size shape captures next a → R a b → IsMember taken lost size shape captures' next b)
@@ -239,7 +239,7 @@ module _ {Q : Type 0} (taken lost size capacity : Q → ℕ) (offer_gives : Q �
         (sound_moves Moves offered_mask (λ a b r. ap (λ (m : Membership Q). m.number) r.same) taken lost size shape active captures (captures + 1) next old new
         groups (offered_member shape captures next) sound zip)
 
-  -- each scan that is offered has its queue's size, and no count comes to its end
+  -- each scan that is offered has its queue's size, and no count has reached its end
   pub all_sized : (shape : ShapeRecord) (active : Option Mask) (captures next : ℕ) (members : List (Membership Q)) (groups : List GroupRecord) (union : List ℕ)
       → IsSound taken lost size shape active captures next members groups → length union ≡ scan_size shape (unwrap_or (bits_of active) 0)
       → All (λ (m : Membership Q). length
@@ -249,7 +249,7 @@ module _ {Q : Type 0} (taken lost size capacity : Q → ℕ) (offer_gives : Q �
       scan_found-size shape (unwrap_or (bits_of active) 0) m.mask.bits union groups sound.grouped.each (sound.grouped.there k d within) sized
       ∙ sym ((sound.each k d within).sized)
 
-  -- each member's mask lies within the active one
+  -- each member's mask is within the active one
   pub member_within : (shape : ShapeRecord) (active : Option Mask) (captures next : ℕ) (members : List (Membership Q)) (groups : List GroupRecord)
       → IsSound taken lost size shape active captures next members groups
       → (k : ℕ) (d : Membership Q) → k < length members → is_within (slice_index_or members k d).mask.bits (unwrap_or (bits_of active) 0) ≡ true
@@ -263,7 +263,7 @@ module _ {Q : Type 0} (taken lost size capacity : Q → ℕ) (offer_gives : Q �
 
 -- ---- the room
 
--- what was written to the front of the room is what its first bytes are
+-- the first bytes of the room are those that were written to its front
 pub room_front : (size len : ℕ) (new old : List ℕ) → length new ≡ len → take size (take len (new ++ drop (length new) old)) ≡ take size new
 room_front size len new old same =
     subst (λ n. take size (take n (new ++ drop (length new) old)) ≡ take size new) same (ap (take size) (take-append_seam new (drop (length new) old)))

@@ -1,4 +1,4 @@
--- What a member's exchange of its mask keeps.
+-- What the exchange of a member's mask keeps.
 use Rattle.std.proofs.Common.{◌≡◌, ◌==◌, ◌||◌, ℕ, ◌+◌, ◌^◌, ◌<◌, Bool, true, false, not, zero, suc, List, [], ◌∷◌, ◌++◌, length, map, filter, take, drop, get_or, slice_set, slice_index_or, Option, Some, None, IfSome, IfNone, subst, refl, sym, ap, ◌∙◌, arith}
 use Rattle.std.specs.List.{All, IsDistinct}
 use Rattle.std.proofs.lemmas.List.{length-append, map-append, take_more}
@@ -25,7 +25,7 @@ or_true : (b : Bool) → (b || true) ≡ true
 or_true true = refl
 or_true false = refl
 
--- one element is another one
+-- one element is replaced by another one
 all_instead : {A : Type 0} (P : A → Type 0) (before after : List A) (x y : A) → All P (before ++ x ∷ after) → P y → All P (before ++ y ∷ after)
 all_instead P [] after x y all new = All-cons P y after new (All-tail P x after all)
 all_instead P (z ∷ zs) after x y all new =
@@ -34,7 +34,7 @@ all_instead P (z ∷ zs) after x y all new =
 -- ---- unions
 
 module _ {Q : Type 0} where
-  -- the members of other numbers, where there is one member more
+  -- the members of other numbers, with another member
   without_more : (members : List (Membership Q)) (number k : ℕ) (m : Membership Q) → k < length members → m ≡ get_or members k m
       → without number (take (k + 1) members) ≡ without number (take k members) ++ without number (m ∷ [])
   without_more members number k m within at =
@@ -63,7 +63,7 @@ module _ {Q : Type 0} where
       append_none [] = refl
       append_none (x ∷ xs) = ap (λ ys. x ∷ ys) (append_none xs)
 
-  -- one member is another one
+  -- one member is replaced by another one
   pub union_instead : (before after : List (Membership Q)) (y : Membership Q)
       → union_of_all (masks_of (before ++ y ∷ after)) ≡ union_of y.mask.bits (union_of_all (masks_of (before ++ after)))
   union_instead before after y =
@@ -91,7 +91,7 @@ module _ {Q : Type 0} where
 
 -- ---- groups
 
--- a group is of the mask, or the mask is that of the group that is added
+-- a group has the mask, or the mask is that of the group that is added
 has_own : (groups : List GroupRecord) (q own : ℕ) → (has_group groups q || q == own) ≡ true → has_group groups own ≡ true → has_group groups q ≡ true
 has_own groups q own either there = by (has_group groups q) refl either
   where
@@ -135,7 +135,7 @@ module _ {Q : Type 0} (taken lost size : Q → ℕ) where
           kept_key (λ (g : GroupRecord). g.mask) (remade shape active) (λ g. refl) kept own
           ∙ none_fewer (λ (g : GroupRecord). g.mask) test groups own none
 
-      -- a member's group, where one is added
+      -- a member's group, if one is added
       added_has : (g : GroupRecord) (q : ℕ) → g.mask ≡ own → is_wanted new q ≡ true → (has_group groups q || q == own) ≡ true
           → has_group (made ++ g ∷ []) q ≡ true
       added_has g q is wanted either = list_any-append (λ (x : GroupRecord). x.mask == q) made (g ∷ []) ∙ by (has_group groups q) refl either
@@ -213,7 +213,7 @@ module _ {Q : Type 0} (taken lost size : Q → ℕ) where
           sound.grouped.there)
           (let own = eq_same y.mask.bits y.mask.bits refl in rw own (or_true (has_group groups y.mask.bits)))
 
-  -- the member at a place is another one of its number
+  -- the member at a place is replaced by another one of its number
   pub sound_remasks_at : (shape : ShapeRecord) (old : Option Mask) (active : Mask) (captures next : ℕ) (members new : List (Membership Q)) (k : ℕ)
       (x y : Membership Q) (groups : List GroupRecord) (g : Option GroupRecord)
       → IsSound taken lost size shape old captures next members groups → k < length members → x ≡ get_or members k x → new ≡ slice_set members k y
@@ -233,13 +233,13 @@ module _ {Q : Type 0} (taken lost size : Q → ℕ) where
       (with_group g (map (remade shape active.bits) (filter (λ z. is_wanted ms z.mask) groups)))) (sym now)
       (sound_remasks shape old active captures next (take k members) x y (drop (k + 1) members) groups g was beside low number fits some none)
 
--- what stands at a place
+-- the element at a place
 pub at_itself : {A : Type 0} (xs : List A) (k : ℕ) (d : A) → k < length xs → get_or xs k d ≡ get_or xs k (get_or xs k d)
 at_itself [] k d within = absurd (omega arith)
 at_itself (x ∷ xs) zero d within = refl
 at_itself (x ∷ xs) (suc k) d within = at_itself xs k d (omega arith)
 
--- the member of a number, at its place, begins anew
+-- the member of a number begins anew, at its place
 module _ {Q : Type 0} (taken lost size : Q → ℕ) (shape : ShapeRecord) (old : Option Mask) (captures next : ℕ) (members new : List (Membership Q)) (k number : ℕ)
     (mask : Mask) (tail : Q) (groups : List GroupRecord) (d : Membership Q)
     (sound : IsSound taken lost size shape old captures next members groups) (within : k < length members) (at : (slice_index_or members k d).number ≡ number)
@@ -255,7 +255,7 @@ module _ {Q : Type 0} (taken lost size : Q → ℕ) (shape : ShapeRecord) (old :
       union_at members new k was anew sound.numbers within (at_itself members k d within) is
       ∙ ap (λ n. union_of mask.bits (union_of_all (masks_of (without n members)))) at
 
-  -- the groups that are still wanted lie within what contains the new union
+  -- the groups that are still wanted are within what contains the new union
   pub anew_within : (active : ℕ) → is_within (union_of mask.bits (union_of_all (masks_of (without number members)))) active ≡ true
       → All (λ (g : GroupRecord). is_within g.mask active ≡ true) (filter (λ (g : GroupRecord). is_wanted new g.mask) groups)
   anew_within active h = kept_within taken lost size new groups active (subst (λ u. is_within u active ≡ true) (sym union_is) h)

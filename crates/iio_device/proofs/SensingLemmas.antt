@@ -10,7 +10,7 @@ use Rattle.iio_event.specs.declared.watch.Watched.{Watched}
 use Rattle.iio_event.specs.Monitor.{MonitorRecord, channel_at, crosses, fired_at, fired_events, after_value}
 use Rattle.iio_device.specs.Sensing.{Sensed, is_watched, channel_sensed, channels_sensed, begun, sense_result}
 
--- ---- a value fires two events at most
+-- ---- a value fires at most two events
 
 at_most_one : {A : Type 0} (b : Bool) (x : A) → length (if b then (x ∷ []) else []) ≤ 1
 at_most_one true x = omega arith
@@ -28,7 +28,7 @@ when : {A : Type 0} (b : Bool) (x y : A) → b ≡ true → (if b then x else y)
 when true x y is = refl
 when false x y is = absurd cc
 
--- what an ask's answer says
+-- the answer of an ask
 abbrev answers : Bool → ℕ → Result ℕ Fault
 answers b k = if b then Err (record {}) else Ok k
 
@@ -45,7 +45,7 @@ failure (Ok n) is = absurd cc
 failure (Err e) is = refl
 
 module _ {Who : Type 0} where
-  -- ---- where the count begins makes no difference
+  -- ---- it makes no difference where the count begins
 
   abbrev pub look_at : Driver → MonitorRecord Who → ℕ → Sensed Who
   look_at d m k = record { driver = d; monitor = m; count = k; fault = false }
@@ -53,7 +53,7 @@ module _ {Who : Type 0} where
   abbrev pub counted : ℕ → Sensed Who → Sensed Who
   counted k x = record x { count = k + x.count }
 
-  -- one channel: whether it is watched, whether the ask fails, and what comes of a value
+  -- one channel: whether it is watched, whether the ask fails, and what a value gives
   abbrev one : Bool → Bool → Driver → MonitorRecord Who → ℕ → Sensed Who → Sensed Who
   one w f e n l x = if not w then x else if f then record x { driver = e; fault = true } else look_at e n (x.count + l)
 
@@ -68,7 +68,7 @@ module _ {Who : Type 0} where
       more (is_watched (channel_at c m)) (ask_fails d) d (after_ask d) m (after_value c (value_of d shape t c 0) t m) k
       (length (fired_events (value_of d shape t c 0) t (channel_at c m)))
 
-  -- ---- once an ask has failed, no channel is asked
+  -- ---- after an ask has failed, no channel is asked
 
   past_fault : (shape : ShapeRecord) (t : ℤ) (c : ℕ) (x : Sensed Who) → x.fault ≡ true → channel_sensed shape t c x ≡ x
   past_fault shape t c x failed = when x.fault x _ failed
@@ -83,7 +83,7 @@ module _ {Who : Type 0} where
     | inr l ↦ (let before = stays shape t c n x l failed in past_fault shape t n (channels_sensed shape t n x) (ap (λ y. y.fault) before ∙ failed) ∙ before)
   ]
 
-  -- ---- one channel more
+  -- ---- another channel
 
   met : (d d' : Driver) (m m' : MonitorRecord Who) (k n count : ℕ) (fault : Bool) → d' ≡ d → m' ≡ m → n ≡ count → fault ≡ false
       → (let x : Sensed Who = record { driver = d; monitor = m; count = k + count; fault = fault } in x) ≡ look_at d' m' (k + n)
@@ -99,7 +99,7 @@ module _ {Who : Type 0} where
       let (none, count) = counts y.fault y.count n answer in
       ap (channel_sensed shape t c) so_far ∙ channel_counted shape t c d m k ∙ met y.driver d' y.monitor m' k n y.count y.fault driver monitor count none
 
-  -- the whole look, where an ask of its last channel failed
+  -- the whole look, if the ask of its last channel failed
   pub record Fails (x : Sensed Who) (d : Driver) (m : MonitorRecord Who) : Type 0 where
     pub driver : d ≡ x.driver
     pub monitor : m ≡ x.monitor

@@ -31,7 +31,7 @@ or_true false = refl
 pub remade_group : (shape : ShapeRecord) (a a' : ℕ) (g : GroupRecord) → IsGroup shape a g → IsGroup shape a' (remade shape a' g)
 remade_group shape a a' g is = record { table = refl; room = is.room }
 
--- tables that are made for a mask are those that would be made for it
+-- tables that were made for a mask are those that would be made for it again
 pub same_tables : (shape : ShapeRecord) (active : ℕ) (groups : List GroupRecord) → All (IsGroup shape active) groups → map (remade shape active) groups ≡ groups
 same_tables shape active [] all = refl
 same_tables shape active (g ∷ gs) all =
@@ -47,7 +47,7 @@ with_group-has : (g : Option GroupRecord) (groups : List GroupRecord) (mask : �
 with_group-has None groups mask there = there
 with_group-has (Some g) groups mask there = list_any-append (λ x. x.mask == mask) groups (g ∷ []) ∙ rw there refl
 
--- ---- a member more
+-- ---- another member
 
 nil_push : {A : Type 0} (xs : List A) (x : A) → is_nil (xs ++ x ∷ []) ≡ false
 nil_push [] x = refl
@@ -61,7 +61,7 @@ active_for-push shape masks mask = by masks ∙ ap (active_of shape) (union_push
     by [] = refl
     by (m ∷ ms) = refl
 
--- what stands at a place of a list, and what stands before and after it
+-- a list as the element at a place, and those before and after it
 pub split_at : {A : Type 0} (xs : List A) (k : ℕ) (x : A) → k < length xs → x ≡ get_or xs k x → xs ≡ take k xs ++ x ∷ drop (k + 1) xs
 split_at [] k x within at = absurd (omega arith)
 split_at (y ∷ ys) zero x within at = ap (λ z. z ∷ ys) (sym at)
@@ -91,7 +91,7 @@ module _ {Q : Type 0} (taken lost size : Q → ℕ) where
     };
   }
 
-  -- each group's mask lies within what contains the union
+  -- each group's mask is within what contains the union
   pub groups_within : (shape : ShapeRecord) (old active : ℕ) (members : List (Membership Q)) (groups : List GroupRecord)
       → AreGroups taken lost size shape old members groups
       → is_within (union_of_all (masks_of members)) active ≡ true → All (λ (g : GroupRecord). is_within g.mask active ≡ true) groups
@@ -118,7 +118,7 @@ module _ {Q : Type 0} (taken lost size : Q → ℕ) where
   later_member shape captures next m is =
       let low = is.numbered in record { numbered = omega (arith, low); below = is.below; channel = is.channel; counted = is.counted; sized = is.sized }
 
-  -- the next number is no member's
+  -- no member has the next number
   next_free : (shape : ShapeRecord) (captures next : ℕ) (members : List (Membership Q)) → All (IsMember taken lost size shape captures next) members
       → is_live next members ≡ false
   next_free shape captures next [] all = refl
@@ -194,7 +194,7 @@ module _ {Q : Type 0} (taken lost size : Q → ℕ) where
     grouped = grouped_joins shape _ active.bits members groups m g sound.grouped some none;
   }
 
-  -- ---- a member less
+  -- ---- a member leaves
 
   pub nil_other : {A : Type 0} (before after : List A) (x : A) → is_nil (before ++ x ∷ after) ≡ false
   nil_other [] after x = refl
@@ -274,7 +274,7 @@ module _ {Q : Type 0} (taken lost size : Q → ℕ) where
           let is = length-append before after in
           omega (arith, few, was, is)
 
-  -- where there was an active mask, there is one for the members that stay
+  -- if there was an active mask, there is one for the members that stay
   fewer_asked : (shape : ShapeRecord) (less wanted : ℕ) → is_within less wanted ≡ true → (o : Option ℕ)
       → matching_mask shape.listed (data_part shape wanted) ≡ o
       → IsSome (option_map (with_stamp shape wanted) o) → IsSome (active_of shape less)

@@ -19,14 +19,14 @@ module _ {A : Type 0} where
   same_zip R same [] = tt
   same_zip R same (x ∷ xs) = (same x, same_zip R same xs)
 
-  -- one element changes, by a relation in which each stands to itself
+  -- one element changes, by a relation that each element has to itself
   pub set_zip : (R : A → A → Type 0) → ((x : A) → R x x) → (xs : List A) (k : ℕ) (x y : A) → k < length xs → x ≡ get_or xs k x → R x y
       → AllZip R xs (slice_set xs k y)
   set_zip R same [] k x y within at r = absurd (omega arith)
   set_zip R same (z ∷ zs) zero x y within at r = (subst (λ a. R a y) at r, same_zip R same zs)
   set_zip R same (z ∷ zs) (suc k) x y within at r = (same z, set_zip R same zs k x y (omega arith) at r)
 
-  -- what stands before and after it
+  -- the elements before and after it
   pub set_split : (xs : List A) (k : ℕ) (y : A) → k < length xs → slice_set xs k y ≡ take k xs ++ y ∷ drop (k + 1) xs
   set_split [] k y within = absurd (omega arith)
   set_split (z ∷ zs) zero y within = refl
@@ -34,7 +34,7 @@ module _ {A : Type 0} where
       let more : suc k + 1 ≡ suc (k + 1) = omega arith in
       subst (λ n. slice_set (z ∷ zs) (suc k) y ≡ z ∷ take k zs ++ y ∷ drop n (z ∷ zs)) (sym more) (ap (λ ws. z ∷ ws) (set_split zs k y (omega arith)))
 
--- one member changes so, and the others stay
+-- one member changes as `R` says, and the others stay
 pub changes_one : (number : ℕ) (R : Membership Queue → Membership Queue → Type 0) (members new : List (Membership Queue)) (k : ℕ) (x y : Membership Queue)
     → k < length members → x ≡ get_or members k x → member_of number members ≡ Some x → R x y → new ≡ slice_set members k y → ChangesOne number R members new
 changes_one number R members new k x y within at found moved is = record {

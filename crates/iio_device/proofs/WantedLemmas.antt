@@ -1,4 +1,4 @@
--- What the union of the members' masks tells, and which groups a mask that goes leaves wanted.
+-- What the union of the members' masks tells, and which groups stay wanted when a mask goes.
 use Rattle.std.proofs.Common.{◌≡◌, ◌==◌, ◌||◌, ℕ, ◌+◌, ◌<◌, Bool, true, false, not, List, [], ◌∷◌, ◌++◌, length, filter, take, drop, get_or, slice_set, Option, Some, None, IfSome, subst, refl, sym, ap, ◌∙◌, arith}
 use Rattle.std.specs.List.{All, AllZip}
 use Rattle.std.proofs.lemmas.List.{map-append}
@@ -34,7 +34,7 @@ union_within a b within = same_from_has (union_of a b) b (λ c. has-or a b c ∙
     by false q more = refl
 
 module _ {Q : Type 0} where
-  -- a member more
+  -- another member
   pub push_union : (members : List (Membership Q)) (m : Membership Q)
       → union_of m.mask.bits (union_of_all (masks_of members)) ≡ union_of_all (masks_of (members ++ m ∷ []))
   push_union members m = sym (ap union_of_all (map-append mask_of members (m ∷ [])) ∙ union_push (masks_of members) m.mask.bits)
@@ -70,7 +70,7 @@ kept_all test (g ∷ gs) all =
     let first : test g ≡ true = All-head (λ x. test x ≡ true) g gs all in
     rw first (ap (λ (rest : List GroupRecord). g ∷ rest) (kept_all test gs (All-tail (λ x. test x ≡ true) g gs all)))
 
--- where each other group than that of one mask is wanted: without that group stay those that are wanted, where it isn't
+-- if each group except that of one mask is wanted, and that one isn't: the groups without it are those that are wanted
 pub dropped_is : (wanted : ℕ → Bool) (gone : ℕ) (groups : List GroupRecord) → All (λ (g : GroupRecord). (wanted g.mask || g.mask == gone) ≡ true) groups
     → wanted gone ≡ false
     → filter (λ (g : GroupRecord). not (g.mask == gone)) groups ≡ filter (λ (g : GroupRecord). wanted g.mask) groups
@@ -84,7 +84,7 @@ dropped_is wanted gone groups others none =
     by q false te true tw h = refl
     by q false te false tw h = absurd (cc)
 
--- and all are wanted, where it is
+-- if that one is wanted too, all are
 pub shared_is : (wanted : ℕ → Bool) (gone : ℕ) (groups : List GroupRecord) → All (λ (g : GroupRecord). (wanted g.mask || g.mask == gone) ≡ true) groups
     → wanted gone ≡ true
     → filter (λ (g : GroupRecord). wanted g.mask) groups ≡ groups
@@ -98,7 +98,7 @@ shared_is wanted gone groups others there =
     by q false te true tw h = refl
     by q false te false tw h = absurd (cc)
 
--- ---- a member less
+-- ---- a member leaves
 
 either_left : (a b c d : Bool) → (b ≡ true → d ≡ true) → (a || (b || c)) ≡ true → ((a || c) || d) ≡ true
 either_left true b c d more h = refl
@@ -148,7 +148,7 @@ module _ {Q : Type 0} where
       (left_wanted (take k members) m (drop (k + 1) members) g.mask (subst (λ ms. is_wanted ms g.mask ≡ true) (split_at members k m within at) wanted))) groups
       used
 
-  -- or by the one that stands in its place
+  -- or by the one that is put in its place
   pub wanted_set : (members new : List (Membership Q)) (k : ℕ) (x y : Membership Q) (groups : List GroupRecord) → k < length members → x ≡ get_or members k x
       → new ≡ slice_set members k y
       → All (λ (g : GroupRecord). is_wanted members g.mask ≡ true) groups
@@ -165,7 +165,7 @@ module _ {Q : Type 0} where
       ∙ either))) groups
       (wanted_left members (take k members ++ drop (k + 1) members) k x groups within at refl used)
 
-  -- where another member has the mask of the one that leaves, the union stays
+  -- if another member has the mask of the one that leaves, the union stays
   pub shared_union : (members rest : List (Membership Q)) (k : ℕ) (m : Membership Q) → k < length members → m ≡ get_or members k m
       → rest ≡ take k members ++ drop (k + 1) members
       → is_wanted rest m.mask.bits ≡ true → union_of_all (masks_of members) ≡ union_of_all (masks_of rest)
@@ -176,7 +176,7 @@ module _ {Q : Type 0} where
       ∙ union_within m.mask.bits (union_of_all (masks_of rest)) (wanted_within rest m.mask.bits shared)
 
 module _ {Q : Type 0} (taken lost size : Q → ℕ) where
-  -- an active mask is that of the union
+  -- the active mask is the one for the union
   pub active_is : (shape : ShapeRecord) (active : Option Mask) (captures next : ℕ) (members : List (Membership Q)) (groups : List GroupRecord)
       → IsSound taken lost size shape active captures next members groups
       → is_nil members ≡ false → bits_of active ≡ active_of shape (union_of_all (masks_of members))
@@ -207,7 +207,7 @@ module _ {Q : Type 0} (taken lost size : Q → ℕ) where
       ∙ ap (active_of shape) (shared_union members rest k m within at is shared)
       ∙ sym (asked_of taken lost size shape (masks_of rest) (nil_map taken lost size rest ∙ nil_wanted rest m.mask.bits shared))
 
-  -- and then nothing else changes
+  -- then nothing else changes
   pub sound_leaves_shared : (shape : ShapeRecord) (active : Option Mask) (captures next : ℕ) (members rest : List (Membership Q)) (k : ℕ) (m : Membership Q)
       (groups : List GroupRecord)
       → IsSound taken lost size shape active captures next members groups → k < length members → m ≡ get_or members k m

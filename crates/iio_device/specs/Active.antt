@@ -5,15 +5,15 @@ use Rattle.iio_mask.specs.Mask.{union_of, union_of_all}
 use Rattle.iio_layout.specs.Active.{active_of}
 use Rattle.iio_layout.specs.Shape.{ShapeRecord}
 
--- none is asked for where there is no member
+-- if there is no member, there is no mask to ask under
 abbrev pub active_for : ShapeRecord → List ℕ → Option ℕ
 active_for shape [] = None
 active_for shape (mask ∷ masks) = active_of shape (union_of_all (mask ∷ masks))
 
--- the one for members of these masks, and one of that mask besides
+-- the mask for members of these masks and another one of that mask
 abbrev pub active_beside : ShapeRecord → List ℕ → ℕ → Option ℕ
 active_beside shape masks mask = active_of shape (union_of mask (union_of_all masks))
 
--- whether there is none that serves them all
+-- whether no mask serves them all
 abbrev pub is_without_union : ShapeRecord → List ℕ → ℕ → Bool
 is_without_union shape masks mask = is_none (active_beside shape masks mask)

@@ -1,6 +1,6 @@
 -- A device as contracts see it, and what each call makes of it. (Kernel, driver-api/iio: the core keeps a device's buffer,
--- trigger, attributes and events; its driver is asked. That a device can be unplugged while members stay, and the order of
--- the refusals, is this project's own.)
+-- trigger, attributes and events; its driver is asked. That a device can be unplugged while it has members, and the order of
+-- the refusals, are this project's own.)
 use Rattle.std.specs.Prelude.{◌≡◌, ℕ, ◌+◌, ◌-◌, ◌^◌, ◌==◌, ◌&&◌, ◌||◌, not, nat_lt, Bool, true, false, ⊤, List, [], ◌∷◌, length, Option, Some, None, is_none, is_some, option_map, Result, Ok, Err, if◌then◌else◌, ℤ}
 use Rattle.std.specs.Option.{option_map_or}
 use Rattle.iio_base.specs.Refusals.{ensure, ◌>>=◌, first_refusal}
@@ -44,8 +44,7 @@ use Rattle.iio_device.specs.Stored.{site_with}
 use Rattle.iio_device.specs.Totals.{no_totals, with_lost}
 use Rattle.iio_device.specs.declared.totals.Totals.{Totals}
 
--- a device: its name, its number, its members with what belongs to them, what its queues gave and lost in all, and what else
--- stands at it
+-- a device: its name, its number, its members with what belongs to them, what its queues gave and lost in all, and its site
 pub record DeviceView (Q : Type 0) : Type 0 where
   pub name : List ℕ
   pub number : ℕ
@@ -54,14 +53,14 @@ pub record DeviceView (Q : Type 0) : Type 0 where
   pub site : Site ℕ
 
 module _ {Q P : Type 0} {g : Ghosts Q} (driver : P → Driver) where
-  -- what stands at a device, of what the core keeps and what samples
+  -- a device's site, from what the core keeps and what is sampled
   abbrev pub site_of : IioDev Q g → Option P → Site ℕ
   site_of core plug = site_with (is_some plug) core.trigger core.attachment (driver_in driver plug) core.stored
 
   abbrev pub view_of : IioDev Q g → Option P → DeviceView Q
   view_of core plug = record { name = core.name; number = core.number; standing = standing_of core.roster; totals = core.totals; site = site_of core plug }
 
--- ---- words on joining
+-- ---- conditions of a joining
 
 -- a mask with a bit at or above the number of channels, or without a data channel
 abbrev pub is_bad_mask : ShapeRecord → ℕ → Bool
@@ -87,13 +86,13 @@ module _ {Q : Type 0} where
   abbrev pub at_site : Site ℕ → DeviceView Q → DeviceView Q
   at_site site d = record d { site = site }
 
-  -- whether it can be asked for a sample, and given another trigger: it is plugged, and has no member
+  -- whether it can be asked for a sample and be given another trigger: it is plugged and has no member
   abbrev pub is_idle : DeviceView Q → Bool
   is_idle d = d.site.plugged && is_empty d.standing.members
 
   -- ---- joining
 
-  -- whether there is no place for one member more: the first one wants one at the trigger, and numbers end
+  -- whether there is no place for another member: the first one needs a place at the trigger, and the numbers have an end
   abbrev pub is_full : DeviceView Q → Option State → Bool
   is_full d trigger = is_empty d.standing.members && option_map_or (has_no_place d.number) trigger false || d.standing.next == 2 ^ 64 - 1
 
@@ -104,7 +103,7 @@ module _ {Q : Type 0} where
       ∷ (is_bad_mask d.standing.shape mask, fault.BadMask)
       ∷ member_faults (is_none d.site.trigger) (is_without_union d.standing.shape (masks_of d.standing.members) mask) (is_full d trigger)
 
-  -- the trigger, once the device has its first member: the device holds a place under the number of its attachment
+  -- the trigger after a joining: with its first member the device takes a place, under the number of its attachment
   abbrev pub trigger_joined : DeviceView Q → State → State
   trigger_joined d trigger =
       if is_empty d.standing.members then record trigger { attached = with_place d.number (d.site.attachment + 1) trigger.attached } else trigger
@@ -112,7 +111,7 @@ module _ {Q : Type 0} where
   abbrev pub device_joined : Mask → Q → DeviceView Q → DeviceView Q
   device_joined mask tail d = record d { standing = after_join mask tail d.standing; site = attached (is_empty d.standing.members) d.site }
 
-  -- a join under a mask, with a queue's end. A refused one gives the end back and changes nothing
+  -- a join under a mask, with a queue's end. A refusal gives the end back and changes nothing
   abbrev pub JoinsDevice : Mask → Q → Result Member (JoinRefused Q) → (old new : DeviceView Q) → (trigger trigger' : State) → Type 0
   JoinsDevice mask tail (Ok member) old new trigger trigger' =
       (first_refusal (join_faults old mask.bits (Some trigger)) ≡ None)
@@ -124,12 +123,12 @@ module _ {Q : Type 0} where
 
   -- ---- leaving
 
-  -- the trigger, once a member has left: without one the device holds no place
+  -- the trigger after a leaving: a device without a member holds no place
   abbrev pub trigger_left : DeviceView Q → State → State
   trigger_left d trigger = if is_empty d.standing.members then record trigger { attached = without_place d.number trigger.attached } else trigger
 
-  -- the member of that number leaves, gives its queue's end back, and what its queue lost is counted; where there is none,
-  -- nothing changes
+  -- the member of that number leaves and gives its queue's end back, and what its queue lost is counted; if there is no such
+  -- member, nothing changes
   abbrev pub LeavesDevice : (lost : Q → ℕ) → ℕ → Option Q → (old new : DeviceView Q) → (trigger trigger' : State) → Type 0
   LeavesDevice lost number None old new trigger trigger' = (member_of number old.standing.members ≡ None) × (new ≡ old) × (trigger' ≡ trigger)
   LeavesDevice lost number (Some tail) old new trigger trigger' =
@@ -139,7 +138,7 @@ module _ {Q : Type 0} where
 
   -- ---- another mask
 
-  -- why a member can't have another mask, in this order; the others' masks stay
+  -- why a member can't get another mask, in this order; the others keep their masks
   abbrev pub remask_faults : DeviceView Q → (number mask : ℕ) → List (Bool × RemaskFault)
   remask_faults d number mask =
       (not d.site.plugged, remask.Gone)
@@ -148,7 +147,7 @@ module _ {Q : Type 0} where
       ∷ (is_without_union d.standing.shape (masks_of (without number d.standing.members)) mask, remask.NoUnion)
       ∷ []
 
-  -- the member of that number begins anew under another mask, with another queue's end. Its old queue's end comes back, and
+  -- the member of that number begins anew under another mask, with another queue's end. It gives its old queue's end back, and
   -- what that lost is counted. A refusal gives the new end back and changes nothing
   abbrev pub RemasksDevice : (lost : Q → ℕ) → ℕ → Mask → Q → Result Q (RemaskRefused Q) → (old new : DeviceView Q) → Type 0
   RemasksDevice lost number mask tail (Ok before) old new =
@@ -160,7 +159,8 @@ module _ {Q : Type 0} where
 
   -- ---- asking the sensor
 
-  -- whether the handling of a trigger's entry asks the sensor: the entry is the device's and current, and captures don't end
+  -- whether the handling of a trigger's entry asks the sensor: the entry is the device's and current, and there may be another
+  -- capture
   abbrev pub is_due : Handed → DeviceView Q → Bool
   is_due due d =
       due.dev == d.number
@@ -211,8 +211,8 @@ module _ {Q : Type 0} where
   after_trigger trigger d = if is_idle d then at_site (record d.site { trigger = trigger }) d else d
 
 module _ {Q : Type 0} (taken lost size capacity : Q → ℕ) (offer_gives : Q → List ℕ → Offered → Q → Type 0) where
-  -- the handling of a trigger's entry. Where it is due, the sensor is asked exactly once, at the entry's moment and under the
-  -- active mask; each member is offered its own scan of the capture, once. An ask that fails changes the sensor alone
+  -- the handling of a trigger's entry. If it is due, the sensor is asked exactly once, at the entry's moment and under the
+  -- active mask, and each member is offered its own scan of the capture, once. An ask that fails changes only the sensor
   abbrev pub Handles : Handed → Handled → (old new : DeviceView Q) → Type 0
   Handles due handled.Idle old new = (is_due due old ≡ false) × (new ≡ old)
   Handles due handled.Fault old new = (is_due due old ≡ true) × (ask_fails old.site.driver ≡ true) × (new ≡ capture_asked due.t old)

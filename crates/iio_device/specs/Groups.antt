@@ -16,16 +16,16 @@ pub record GroupRecord : Type 0 where
 abbrev pub has_group : List GroupRecord → ℕ → Bool
 has_group groups mask = list_any (λ g. g.mask == mask) groups
 
--- the table is the one from the active mask
+-- what holds of a group: its table copies from the scan under the active mask
 pub record IsGroup (shape : ShapeRecord) (active : ℕ) (g : GroupRecord) : Type 0 where
   pub table : g.table ≡ table_of shape active g.mask
   pub room : length g.scan ≡ scan_size shape g.mask
 
--- the table is made again, for another active mask
+-- the table is made again for another active mask
 abbrev pub remade : ShapeRecord → ℕ → GroupRecord → GroupRecord
 remade shape active g = record g { table = table_of shape active g.mask }
 
--- the scan of an active one is laid out, where the group isn't of the active mask itself
+-- the group's scan is laid out from `union`, the scan under the active mask, unless the group is of the active mask itself
 abbrev pub laid_out : ℕ → List ℕ → GroupRecord → GroupRecord
 laid_out active union g = if g.mask == active then g else record g { scan = copied g.table.entries union g.table.buffer_size }
 
@@ -33,6 +33,6 @@ laid_out active union g = if g.mask == active then g else record g { scan = copi
 abbrev pub scan_under : List GroupRecord → ℕ → List ℕ
 scan_under groups mask = option_map_or (λ g. g.scan) (find (λ g. g.mask == mask) groups) []
 
--- the scan under a mask: the active one itself, or that of the group of the mask
+-- the scan under a mask: that under the active mask, or that of the mask's group
 abbrev pub scan_for : ℕ → List ℕ → List GroupRecord → ℕ → List ℕ
 scan_for active union groups mask = if mask == active then union else scan_under groups mask

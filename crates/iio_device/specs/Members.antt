@@ -1,4 +1,4 @@
--- The members of a device, in the order of their joining.
+-- The members of a device, in the order in which they joined.
 use Rattle.std.specs.Prelude.{◌≡◌, ℕ, ◌+◌, ◌==◌, ◌&&◌, Bool, not, List, [], ◌∷◌, map, filter, find, Option, None, Some, MatchBool}
 use Rattle.std.specs.List.{list_any}
 use Rattle.std.specs.Set.{distinct_count}
@@ -33,12 +33,12 @@ module _ {Q : Type 0} where
   abbrev pub without : ℕ → List (Membership Q) → List (Membership Q)
   without number members = filter (λ (m : Membership Q). not (m.number == number)) members
 
-  -- the number of the first to have joined
+  -- the number of the member that joined first
   abbrev pub first_number : List (Membership Q) → Option ℕ
   first_number [] = None
   first_number (m ∷ ms) = Some m.number
 
-  -- how many masks the members have, where those that are equal count once
+  -- the number of distinct masks of the members
   abbrev pub mask_count : List (Membership Q) → ℕ
   mask_count members = distinct_count (λ a b. a == b) (masks_of members)
 
@@ -52,12 +52,12 @@ module _ {Q : Type 0} where
       pub sized : size new.tail ≡ size old.tail
       pub bounded : capacity new.tail ≡ capacity old.tail
 
--- the oldest scan of a member's queue is moved out, and the answer says whether there was one
+-- the oldest scan of a member's queue is moved out; `given` says whether there was one
 pub record Drains (given : Bool) (out out' : List ℕ) (old new : Membership Queue) : Type 0 where
   pub same : new ≡ record old { tail = new.tail }
   pub moved : MatchBool given (GivesFirst old.tail out' new.tail) ((old.tail.scans ≡ []) × (new.tail ≡ old.tail) × (out' ≡ out))
 
--- the oldest scans of a member's queue are moved out, at most `most`
+-- the oldest scans of a member's queue, at most `most`, are moved out
 pub record DrainsScans (most count : ℕ) (before after : List ℕ) (old new : Membership Queue) : Type 0 where
   pub same : new ≡ record old { tail = new.tail }
   pub moved : GivesScans most count before after old.tail new.tail

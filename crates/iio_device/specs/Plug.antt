@@ -8,7 +8,7 @@ use Rattle.iio_device.specs.declared.plug.Plug.{Plug}
 use Rattle.iio_device.specs.declared.plug.Plug.TheVariants.{Own, Given}
 use Rattle.iio_device.specs.Site.{no_driver}
 
--- by cases; `given` is the driver of one that was handed in
+-- recorded rows are a driver of their own; `given` says which driver one that was handed in is
 abbrev pub driver_of : {X : Type 0} {V : X → Type 0} → (DynBox X Global V → Driver) → Plug X V → Driver
 driver_of given (Own r) = recorded.driver_of r
 driver_of given (Given d) = given d

@@ -1,4 +1,4 @@
--- A look at a device's thresholds: the channels that are watched, one after the other. (This project's own, after the
+-- A look at a device's thresholds: the channels that are watched, one after another. (This project's own, modelled on the
 -- kernel's events.)
 use Rattle.std.specs.Prelude.{ℕ, zero, suc, ◌+◌, ◌||◌, not, Bool, true, false, length, if◌then◌else◌, ℤ, Result, Ok, Err}
 use Rattle.iio_layout.specs.Shape.{ShapeRecord}
@@ -12,7 +12,7 @@ use Rattle.iio_device.specs.Site.{Site}
 abbrev pub is_watched : Watched → Bool
 is_watched w = w.rising.enabled || w.falling.enabled
 
--- how far a look came: it ends at the first ask that fails
+-- the state of a look: it ends at the first ask that fails
 pub record Sensed (Who : Type 0) : Type 0 where
   pub driver : Driver
   pub monitor : MonitorRecord Who
@@ -20,7 +20,7 @@ pub record Sensed (Who : Type 0) : Type 0 where
   pub fault : Bool
 
 module _ {Who : Type 0} where
-  -- channel c is asked where it is watched and no ask has failed
+  -- a value of channel c is asked for if it is watched and no ask has failed
   abbrev pub channel_sensed : ShapeRecord → ℤ → ℕ → Sensed Who → Sensed Who
   channel_sensed shape t c x =
       if x.fault then x
@@ -40,7 +40,7 @@ module _ {Who : Type 0} where
   channels_sensed shape t zero x = x
   channels_sensed shape t (suc c) x = channel_sensed shape t c (channels_sensed shape t c x)
 
-  -- before the first channel
+  -- the state before the first channel
   abbrev pub begun : Driver → MonitorRecord Who → Sensed Who
   begun driver monitor = record { driver = driver; monitor = monitor; count = 0; fault = false }
 

@@ -1,6 +1,6 @@
--- What stands at a device besides its shape and its members, and what each thing that happens to it makes of that. (Kernel
--- ABI, sysfs-bus-iio: the attributes. Kernel, driver-api/iio: a device is attached to its trigger while its buffer is
--- enabled. That attachments have numbers, and what an unplugged device is, is this project's own.)
+-- A device's site: what stands at it besides its shape and its members, and what each thing that happens to it makes of that.
+-- (Kernel ABI, sysfs-bus-iio: the attributes. Kernel, driver-api/iio: a device is attached to its trigger while its buffer is
+-- enabled. That attachments have numbers, and what an unplugged device is, are this project's own.)
 use Rattle.std.specs.Prelude.{ℕ, zero, suc, ◌+◌, ◌==◌, ◌&&◌, not, Bool, true, false, List, [], ◌∷◌, fold, length, replicate, Option, Some, None, unwrap_or, if◌then◌else◌, ℤ, pos}
 use Rattle.iio_text.specs.declared.values.Fixed.{Fixed}
 use Rattle.iio_text.specs.declared.values.Form.TheVariants.{Int}
@@ -17,11 +17,11 @@ use Rattle.iio_event.specs.declared.event.Edge.TheVariants.{Rising, Falling}
 use Rattle.iio_event.specs.Monitor.{MonitorRecord, new_monitor, set_threshold, switch_edge}
 use Rattle.iio_device.specs.declared.stored.ChannelValues.{ChannelValues}
 
--- `Who` is what the holder of the events is known by
+-- `Who` is the type of what identifies the holder of the events
 pub record Site (Who : Type 0) : Type 0 where
   pub plugged : Bool
   pub trigger : Option ℕ
-  -- how often a first member has joined: the number of the present attachment
+  -- the number of times that a first member has joined; it is the number of the present attachment
   pub attachment : ℕ
   pub driver : Driver
   pub sampling_frequency : Fixed
@@ -30,7 +30,7 @@ pub record Site (Who : Type 0) : Type 0 where
 
 -- ---- values
 
--- before any was written
+-- the value of an attribute before any is written
 abbrev pub at_first : Attr → Fixed
 at_first a = unwrap_or (first_value a) (whole_value Int 0)
 
@@ -41,7 +41,7 @@ abbrev pub is_empty : {A : Type 0} → List A → Bool
 is_empty [] = true
 is_empty (x ∷ xs) = false
 
--- one place of a list is changed
+-- the list with the element at one place changed
 abbrev pub at_place : {A : Type 0} → ℕ → (A → A) → List A → List A
 at_place k f [] = []
 at_place zero f (x ∷ xs) = f x ∷ xs
@@ -53,7 +53,7 @@ with_value attr.Offset v x = record x { offset = v }
 with_value attr.Calibscale v x = record x { calibscale = v }
 with_value a v x = x
 
--- the value of a line of attributes
+-- the value in an attribute line of a description
 abbrev pub number_in : Value → Fixed
 number_in (Number v) = v
 number_in value = whole_value Int 0
@@ -67,7 +67,7 @@ module _ {Who : Type 0} where
   monitor_written c attr.ThreshFallingEn v m = switch_edge c Falling (v.whole == 1) m
   monitor_written c a v m = m
 
-  -- what stands at a device once a value was written, of the device or of a channel
+  -- the site after a write of a value, to the device or to a channel
   abbrev pub site_written : Option ℕ → Attr → Fixed → Site Who → Site Who
   site_written None attr.SamplingFrequency v site = record site { sampling_frequency = v }
   site_written (Some c) attr.Calibbias v site = record site { driver = after_bias site.driver c (fixed_int v) }
@@ -79,7 +79,7 @@ module _ {Who : Type 0} where
 
   -- ---- a new device
 
-  -- the lines of attributes are writes that come before the first step
+  -- the attribute lines are writes that come before the first step
   abbrev pub with_attr : Site Who → AttrDesc → Site Who
   with_attr site a = site_written a.channel a.attr (number_in a.value) site
 
@@ -94,13 +94,13 @@ module _ {Who : Type 0} where
     monitor = new_monitor shape;
   }
 
-  -- a device of that shape, trigger and driver, after the writes of its description
+  -- the site of a device of that shape, trigger and driver, after the writes of its description
   abbrev pub first_site : ShapeRecord → Option ℕ → Driver → List AttrDesc → Site Who
   first_site shape trigger driver attrs = fold with_attr (new_site shape trigger driver) attrs
 
   -- ---- what happens to it
 
-  -- a member more: the first one's joining is a new attachment
+  -- after a joining: that of the first member is a new attachment
   abbrev pub attached : (is_first : Bool) → Site Who → Site Who
   attached is_first site = if is_first then record site { attachment = site.attachment + 1 } else site
 
@@ -115,7 +115,7 @@ module _ {Who : Type 0} where
   abbrev pub with_monitor : (MonitorRecord Who → MonitorRecord Who) → Site Who → Site Who
   with_monitor change site = record site { monitor = change site.monitor }
 
--- in the place of a driver that is dropped
+-- stands in place of a driver that was dropped
 abbrev pub no_driver : Driver
 no_driver = record { sample = λ shape c k t. pos 0; bias = λ c. pos 0; asked = 0; last = None; fails = []; faults = 0 }
 

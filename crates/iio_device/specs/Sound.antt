@@ -18,7 +18,7 @@ is_nil (x ∷ xs) = false
 abbrev pub bits_of : Option Mask → Option ℕ
 bits_of mask = option_map (λ m. m.bits) mask
 
--- the bytes of a scan under the mask that the sensor is asked under; of the empty one without a member
+-- the size in bytes of a scan under the mask that the sensor is asked under, or under the empty mask if there is no member
 pub record IsSize (shape : ShapeRecord) (active : Option Mask) (size : ℕ) : Type 0 where
   pub is : size ≡ scan_size shape (unwrap_or (bits_of active) 0)
   pub few : size ≤ MAX_CHANNEL_SIZE * count_of shape
@@ -28,8 +28,8 @@ abbrev pub HasRoom : ShapeRecord → List ℕ → Type 0
 HasRoom shape room = MAX_CHANNEL_SIZE * count_of shape ≤ length room
 
 module _ {Q : Type 0} (taken lost size : Q → ℕ) where
-  -- a member: its number was given out, its mask is one of the shape and has a data channel, the captures since it joined or
-  -- last got another mask are the scans taken in and those lost, and its queue is of its mask's scans
+  -- a member: its number was given out, its mask is one of the shape and has a data channel, the number of captures since it
+  -- joined or last got another mask is that of the scans taken in and lost, and its queue has the scan size of its mask
   pub record IsMember (shape : ShapeRecord) (captures next : ℕ) (m : Membership Q) : Type 0 where
     pub numbered : m.number < next
     pub below : m.mask.bits < 2 ^ count_of shape
@@ -37,7 +37,7 @@ module _ {Q : Type 0} (taken lost size : Q → ℕ) where
     pub counted : m.joined + (taken m.tail + lost m.tail) ≡ captures
     pub sized : size m.tail ≡ scan_size shape m.mask.bits
 
-  -- each mask of a member has one group, each group has a member, and each table is the one from the active mask
+  -- each mask of a member has one group, each group has a member, and each table copies from the scan under the active mask
   pub record AreGroups (shape : ShapeRecord) (active : ℕ) (members : List (Membership Q)) (groups : List GroupRecord) : Type 0 where
     pub each : All (IsGroup shape active) groups
     pub there : All (λ (m : Membership Q). has_group groups m.mask.bits ≡ true) members
@@ -45,14 +45,14 @@ module _ {Q : Type 0} (taken lost size : Q → ℕ) where
     pub apart : IsDistinct (λ a b. a == b) (map (λ (g : GroupRecord). g.mask) groups)
 
   pub record IsSound (shape : ShapeRecord) (active : Option Mask) (captures next : ℕ) (members : List (Membership Q)) (groups : List GroupRecord) : Type 0 where
-    -- the active mask is the rule of the members, and one of the shape
+    -- the active mask is the one for the members by the rule, and is one of the shape
     pub ruled : bits_of active ≡ active_for shape (masks_of members)
     pub below : IfSome active (λ mask. mask.bits < 2 ^ count_of shape)
-    -- there is an active mask exactly where there is a member
+    -- there is an active mask exactly if there is a member
     pub asked : is_none active ≡ is_nil members
     -- the members are counted in 32 bits
     pub few : length members < 2 ^ 32
-    -- no two members have one number
+    -- no two members have the same number
     pub numbers : IsDistinct (λ a b. a == b) (map (λ (m : Membership Q). m.number) members)
     pub each : All (IsMember shape captures next) members
     pub grouped : AreGroups shape (unwrap_or (bits_of active) 0) members groups

@@ -1,4 +1,4 @@
--- A roster, as its callers see it.
+-- A roster as its callers see it.
 use Rattle.iio_kfifo.specs.declared.tail.Tail.{Ghosts}
 use Rattle.iio_device.specs.declared.roster.Roster.{Roster}
 use Rattle.iio_device.specs.Roster.{Standing}

@@ -1,5 +1,4 @@
--- What a device keeps of its attributes, as it stands at the device, and what is read of them. (Kernel ABI,
--- sysfs-bus-iio.)
+-- What a device keeps of its attributes, as part of its site, and what is read of them. (Kernel ABI, sysfs-bus-iio.)
 use Rattle.std.specs.Prelude.{ℕ, if◌then◌else◌, Bool, List, Option, Some, None, slice_get, unwrap_or, pos}
 use Rattle.iio_text.specs.declared.values.Fixed.{Fixed}
 use Rattle.iio_attr.specs.declared.attributes.Attr.{Attr}
@@ -13,7 +12,7 @@ use Rattle.iio_device.specs.declared.stored.ChannelValues.{ChannelValues}
 use Rattle.iio_device.specs.declared.stored.Stored.{Stored}
 use Rattle.iio_device.specs.Site.{Site, first_values}
 
--- what stands at a device that keeps this beside that driver
+-- the site of a device that keeps this besides that driver
 abbrev pub site_with : (plugged : Bool) → (trigger : Option ℕ) → (attachment : ℕ) → Driver → Stored → Site ℕ
 site_with plugged trigger attachment driver stored = record {
   plugged = plugged;
@@ -27,13 +26,13 @@ site_with plugged trigger attachment driver stored = record {
 
 -- ---- reading
 
--- a value that is only kept
+-- the value of an attribute that is only kept
 abbrev pub kept_value : Attr → ChannelValues → Fixed
 kept_value attr.Scale x = x.scale
 kept_value attr.Offset x = x.offset
 kept_value a x = x.calibscale
 
--- a switch that is on says 1
+-- the value of a switch: 1 if it is on
 abbrev pub switch_value : Bool → Value
 switch_value on = Int (if on then pos 1 else pos 0)
 

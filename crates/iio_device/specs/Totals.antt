@@ -1,4 +1,4 @@
--- What the queues of a device gave and lost in all. (This project's own.)
+-- The totals of what the queues of a device gave and lost. (This project's own.)
 use Rattle.std.specs.Prelude.{ℕ, ◌+◌, Bool, true, List, [], ◌∷◌, Option, None, Some}
 use Rattle.std.specs.List.{sum}
 use Rattle.iio_device.specs.declared.totals.Totals.{Totals}
@@ -28,7 +28,7 @@ with_taken taken scan t = t
 abbrev pub with_lost : ℕ → Totals → Totals
 with_lost lost t = record t { lost = t.lost + lost }
 
--- a queue ended, where there was one
+-- a queue ended, if there was one
 abbrev pub with_left : Option ℕ → Totals → Totals
 with_left None t = t
 with_left (Some lost) t = with_lost lost t

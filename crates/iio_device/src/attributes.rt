@@ -18,7 +18,7 @@ use iio_sensor::Sensor;
 use iio_text::Errno;
 
 impl<Q: Tail> Fitted<IioDev<Q>> {
-    /// The value of an attribute of a plugged device, or of its channel of that number: a stored value as
+    /// Returns the value of an attribute of a plugged device, or of its channel of that number: a stored value as
     /// `Value::Number`, the bias, a threshold or a switch (0 or 1) as `Value::Int`, the name as `Value::Text`.
     pub fn read_attr(&self, channel: Option<u32>, attr: Attr) -> Value
         requires channel { IfSome channel (λ c. c < length self.now.core.roster.shape.channels) }
@@ -31,8 +31,8 @@ impl<Q: Tail> Fitted<IioDev<Q>> {
         }
     }
 
-    /// Writes a value to an attribute of the device, or of its channel of that number. `ENODEV` comes exactly where the
-    /// device is unplugged, and then nothing changes.
+    /// Writes a value to an attribute of the device, or of its channel of that number. Returns `ENODEV`, and changes nothing,
+    /// exactly if the device is unplugged.
     pub fn write_attr(
         &mut self,
         channel: Option<u32>,
@@ -51,8 +51,8 @@ impl<Q: Tail> Fitted<IioDev<Q>> {
         Ok(())
     }
 
-    /// Sets the device's trigger, or none; a number that is given is below 16. `ENODEV` comes exactly where the device is
-    /// unplugged, then `EBUSY` exactly where it has a member.
+    /// Sets the device's trigger, or takes it away; a number that is given is below 16. `ENODEV` if the device is unplugged,
+    /// and then `EBUSY` if it has a member; there is no other refusal.
     pub fn set_trigger(&mut self, trigger: Option<u32>) -> Result<(), Errno>
         requires { IfSome trigger (λ t. t < MAX_TRIGGERS) }
         ensures answer { result ≡ trigger_answer (view_of ⟦<Plug as Sensor>⟧.driver self.old.core self.old.plug) }
@@ -69,7 +69,7 @@ impl<Q: Tail> Fitted<IioDev<Q>> {
         Ok(())
     }
 
-    /// Makes `who` the holder of the device's events, as [`iio_event::Monitor::open`].
+    /// Makes `who` the holder of the device's events; see [`iio_event::Monitor::open`].
     pub fn ev_open(&mut self, who: u32) -> Result<(), Held>
         requires { ⊤ }
         ensures answer { result ≡ open_answer self.old.core.stored.monitor }
@@ -80,7 +80,7 @@ impl<Q: Tail> Fitted<IioDev<Q>> {
         self.core.stored.monitor.open(who)
     }
 
-    /// Takes the holder's oldest event, as [`iio_event::Monitor::read`].
+    /// Takes the oldest event for its holder `who`; see [`iio_event::Monitor::read`].
     pub fn ev_read(&mut self, who: u32) -> Result<Option<EventData>, NotHolder>
         requires { ⊤ }
         ensures answer { result ≡ read_answer nat_eq who self.old.core.stored.monitor }
@@ -91,7 +91,7 @@ impl<Q: Tail> Fitted<IioDev<Q>> {
         self.core.stored.monitor.read(who)
     }
 
-    /// Ends the holding of the device's events, as [`iio_event::Monitor::close`], also at an unplugged device.
+    /// Ends the holding of the device's events; see [`iio_event::Monitor::close`]. An unplugged device's holding ends too.
     pub fn ev_close(&mut self, who: u32) -> Result<(), NotHolder>
         requires { ⊤ }
         ensures answer { result ≡ close_answer nat_eq who self.old.core.stored.monitor }
@@ -102,7 +102,7 @@ impl<Q: Tail> Fitted<IioDev<Q>> {
         self.core.stored.monitor.close(who)
     }
 
-    /// Unplugs the device, and drops its driver. It says whether the device was plugged.
+    /// Unplugs the device, and drops its driver. Returns whether it was plugged.
     pub fn unplug(&mut self) -> bool
         requires { ⊤ }
         ensures answer { result ≡ is_some self.old.plug }

@@ -32,17 +32,17 @@ use std::alloc::Global;
 #[derive(Drop)]
 pub struct Fitted<C> {
     pub core: C,
-    /// What it samples. None once the device is unplugged.
+    /// What it samples; `None` once the device is unplugged.
     pub plug: Option<Plug>,
 }
 
-/// A device whose members' queues have this end.
+/// A device; `Q` is the end that it holds of each member's queue.
 pub type Device<Q> = Fitted<IioDev<Q>>;
 
 impl<Q: Tail> Fitted<IioDev<Q>> {
-    /// A device of that number: it is plugged, has the description's trigger, whose number is below 16, and no member. What it
-    /// samples is `plug`. The attribute lines of the description are written, in their order. Its room for a capture and for
-    /// events is made here.
+    /// Makes a device from its description: plugged, sampling `plug`, of the given number and without a member. Its trigger is
+    /// that of the description, and is below 16. The attribute lines of the description are written in their order. The room
+    /// for a capture and for events is allocated here.
     pub fn new(alloc: Global, desc: DeviceDesc, number: u32, plug: Plug) -> Result<Device<Q>, Mem>
         requires writes { All (IsWrite (length desc.shape.channels)) desc.attrs }
         requires trigger { IfSome desc.trigger (λ t. t < MAX_TRIGGERS) }
@@ -65,64 +65,64 @@ impl<Q: Tail> Fitted<IioDev<Q>> {
         })
     }
 
-    /// Its number in the description.
+    /// The device's number in the description.
     pub fn number(&self) -> u32
         ensures { result ≡ self.now.core.number }
     {
         self.core.number
     }
 
-    /// Its channels.
+    /// The device's channels.
     pub fn shape(&self) -> &Shape
         ensures { result.now ≡ self.now.core.roster.shape }
     {
         &self.core.roster.shape
     }
 
-    /// The mask that its sensor is asked under. None exactly where it has no member.
+    /// Returns the active mask, under which the sensor is asked; `None` exactly if the device has no member.
     pub fn active(&self) -> Option<Mask>
         ensures { result ≡ self.now.core.roster.active }
     {
         self.core.roster.active
     }
 
-    /// The number of its trigger, where it has one.
+    /// The number of the device's trigger, if it has one.
     pub fn trigger(&self) -> Option<u32>
         ensures { result ≡ self.now.core.trigger }
     {
         self.core.trigger
     }
 
-    /// How many captures it had.
+    /// The number of captures that the device has had.
     pub fn captures(&self) -> u64
         ensures { result ≡ self.now.core.roster.captures }
     {
         self.core.roster.captures
     }
 
-    /// Whether it is plugged.
+    /// Whether the device is plugged.
     pub fn plugged(&self) -> bool
         ensures { result ≡ is_some self.now.plug }
     {
         self.plug.is_some()
     }
 
-    /// How many members it has.
+    /// The number of members.
     pub fn members(&self) -> u32
         ensures { result ≡ length self.now.core.roster.members.items }
     {
         self.core.roster.len()
     }
 
-    /// How many masks its members have, where equal ones count once. At a capture a scan is laid out for each of them but the
-    /// active one, whose scan the sensor gives.
+    /// The number of distinct masks of the members. At a capture one scan is laid out for each of them except the active mask,
+    /// whose scan the sensor gives.
     pub fn groups(&self) -> u32
         ensures { result ≡ mask_count self.now.core.roster.members.items }
     {
         self.core.roster.groups()
     }
 
-    /// The member that joined first. None exactly where there is no member.
+    /// Returns the member that joined first, of those that are there; `None` exactly if there is no member.
     pub fn first_member(&self) -> Option<Member>
         ensures { option_map (λ (m : Member). m.number) result ≡ first_number self.now.core.roster.members.items }
     {
@@ -130,15 +130,15 @@ impl<Q: Tail> Fitted<IioDev<Q>> {
         Some(Member { number })
     }
 
-    /// Whether the member is live, and of that mask.
+    /// Whether the member is live and has that mask.
     pub fn is_live_under(&self, member: &Member, mask: Mask) -> bool
         ensures { result ≡ is_live_under member.now.number mask.bits self.now.core.roster.members.items }
     {
         self.core.roster.is_live_under(member.number, mask)
     }
 
-    /// How many scans were lost because a queue was full, of all queues that members have or had. It stays at 2^64 - 1 when it
-    /// gets there.
+    /// The number of scans that were lost because a queue was full, over all queues that members have or had. It stays at
+    /// 2^64 - 1 once it gets there.
     pub fn overruns(&self) -> u64
         ensures { result ≡ min (self.now.core.totals.lost + sum_by (λ (m : Membership Q). Q.lost m.tail) self.now.core.roster.members.items) (2 ^ 64 - 1) }
     {
@@ -149,7 +149,7 @@ impl<Q: Tail> Fitted<IioDev<Q>> {
         total
     }
 
-    /// How many scans the member has lost since it joined or last got another mask. None exactly where it isn't live.
+    /// Returns how many scans the member has lost since it joined or last got another mask; `None` exactly if it isn't live.
     pub fn lost(&self, member: &Member) -> Option<u64>
         ensures { result ≡ option_map (λ (m : Membership Q). Q.lost m.tail) (member_of member.now.number self.now.core.roster.members.items) }
     {
@@ -158,8 +158,9 @@ impl<Q: Tail> Fitted<IioDev<Q>> {
 }
 
 impl Fitted<IioDev<Kfifo>> {
-    /// Moves the member's oldest scan into `out`, and says whether there was one; it counts in the device's totals. None
-    /// exactly where the member isn't live or `out` hasn't the size of its scans, and then nothing changes.
+    /// Moves the member's oldest scan into `out`, and returns whether there was one; the scan counts in the device's totals.
+    /// Returns `None`, and changes nothing, exactly if the member isn't live or the length of `out` isn't the size of its
+    /// scans.
     pub fn take(&mut self, member: &Member, out: &mut [u8]) -> Option<bool>
         requires { ⊤ }
         ensures taken { Takes member.now.number result out.old out.new (view_of ⟦<Plug as Sensor>⟧.driver self.old.core self.old.plug).standing
@@ -173,7 +174,8 @@ impl Fitted<IioDev<Kfifo>> {
         taken
     }
 
-    /// As `take`, of a scan that is given to nobody: it doesn't count in the device's totals.
+    /// Moves the member's oldest scan into `out` as `take` does, but doesn't count it in the device's totals: the scan is given
+    /// to nobody.
     pub fn take_inside(&mut self, member: &Member, out: &mut [u8]) -> Option<bool>
         requires { ⊤ }
         ensures taken { Takes member.now.number result out.old out.new (view_of ⟦<Plug as Sensor>⟧.driver self.old.core self.old.plug).standing
@@ -185,9 +187,9 @@ impl Fitted<IioDev<Kfifo>> {
         self.core.roster.take(member.number, out)
     }
 
-    /// Moves up to `most` of the oldest scans of the member after the bytes that stand in `out`, one after the other, and says
-    /// how many scans there were; they count in the device's totals. None exactly where the member isn't live under that mask,
-    /// and then nothing changes. There is room in `out` for the bytes of `most` scans.
+    /// Appends the member's oldest scans, at most `most`, to `out`, one after another, and returns their number; they count in
+    /// the device's totals. Returns `None`, and changes nothing, exactly if the member isn't live under that mask. `out` must
+    /// have room for the bytes of `most` scans.
     pub fn take_scans(
         &mut self,
         member: &Member,
@@ -213,7 +215,7 @@ impl Fitted<IioDev<Kfifo>> {
         taken
     }
 
-    /// How many scans wait for the member. None exactly where it isn't live.
+    /// Returns how many scans wait for the member; `None` exactly if it isn't live.
     pub fn waiting(&self, member: &Member) -> Option<u32>
         ensures { result ≡ option_map (λ (m : Membership Queue). length m.tail.scans) (member_of member.now.number self.now.core.roster.members.items) }
     {

@@ -1,4 +1,4 @@
-//! Members of the same mask share a copy table.
+//! Groups: members of the same mask share a copy table.
 
 ghost use Rattle.std.specs.Prelude.{◌≡◌, ◌==◌, ℕ, ◌+◌, ◌^◌, ◌<◌, true, All, IfOk, length, map, find, slice_index_or, vec_len, vec_capacity};
 ghost use Rattle.std.specs.List.{IsDistinct};
@@ -32,7 +32,8 @@ impl Model for Group {
 }
 
 impl Group {
-    /// A group of that mask, for a sensor that is asked under this mask. All memory that it ever takes is taken here.
+    /// Makes a group of the mask `mask` for a sensor that is asked under `active`. All memory that it ever needs is allocated
+    /// here.
     pub(crate) fn new(alloc: Global, shape: &Shape, active: Mask, mask: Mask) -> Result<Group, Mem>
         requires below { active.bits < 2 ^ count_of shape.now }
         requires own { mask.bits < 2 ^ count_of shape.now }
@@ -45,7 +46,7 @@ impl Group {
         Ok(Group { mask, table, scan })
     }
 
-    // Makes the table again, for another active mask, under which a scan has `size` bytes.
+    // Makes the table again for another active mask, under which a scan has `size` bytes.
     fn remake(&mut self, shape: &Shape, active: Mask, size: u32)
         requires below { active.bits < 2 ^ count_of shape.now }
         requires size { size ≡ scan_size shape.now active.bits }
@@ -55,7 +56,7 @@ impl Group {
         self.table.remake(shape, active, size, self.mask);
     }
 
-    /// Lays out the scan of the active one, where the group isn't of the active mask itself.
+    /// Lays out the group's scan from `union`, the scan under the active mask, unless the group is of the active mask itself.
     fn lay_out_under(&mut self, active: Mask, union: &[u8])
         requires union { length union.now ≡ self.old.table.active_size }
         requires room { length self.old.scan ≡ self.old.table.buffer_size }
@@ -66,7 +67,7 @@ impl Group {
         }
     }
 
-    /// Whether it is of that mask.
+    /// Whether the group is of that mask.
     pub(crate) fn is_of(&self, mask: Mask) -> bool
         ensures { result ≡ (self.now.mask == mask.bits) }
     {
@@ -79,7 +80,7 @@ impl Group {
         &self.scan
     }
 
-    /// The bytes of the scan that its table copies from.
+    /// The size in bytes of the scan that the group's table copies from.
     pub(crate) fn active_size(&self) -> u32
         ensures { result ≡ self.now.table.active_size }
     {
@@ -87,7 +88,7 @@ impl Group {
     }
 }
 
-/// Makes each group's table again, for another active mask.
+/// Makes each group's table again for another active mask.
 pub(crate) fn remake_all(groups: &mut Vec<Group>, shape: &Shape, active: Mask)
     requires below { active.bits < 2 ^ count_of shape.now }
     requires within { All (λ (g : GroupRecord). is_within g.mask active.bits ≡ true) groups.old.items }
@@ -100,7 +101,8 @@ pub(crate) fn remake_all(groups: &mut Vec<Group>, shape: &Shape, active: Mask)
     }
 }
 
-/// Lays out each group's scan of the active one. A group of the active mask itself has no scan of its own to lay out.
+/// Lays out each group's scan from `union`, the scan under the active mask. A group of the active mask itself has no scan of
+/// its own to lay out.
 pub(crate) fn lay_out_all(groups: &mut Vec<Group>, active: Mask, union: &[u8])
     requires union { All (λ (g : GroupRecord). length union.now ≡ g.table.active_size) groups.old.items }
     requires room { All (λ (g : GroupRecord). length g.scan ≡ g.table.buffer_size) groups.old.items }
@@ -111,8 +113,8 @@ pub(crate) fn lay_out_all(groups: &mut Vec<Group>, active: Mask, union: &[u8])
     }
 }
 
-/// The scan under a mask: the active one, or that of the group of the mask, which is looked for at `place` first. Where it
-/// is found is left there.
+/// Returns the scan under a mask: that under the active mask, or that of the mask's group, which is looked for at `place`
+/// first. The place where it is found is left in `place`.
 pub(crate) fn scan_for<'a>(
     groups: &'a [Group],
     active: Mask,
@@ -133,7 +135,7 @@ pub(crate) fn scan_for<'a>(
     scan_under(groups, mask)
 }
 
-// Whether the group of that mask stands there.
+// Whether the group at that place is of that mask.
 fn stands_at(groups: &[Group], place: usize, mask: Mask) -> bool
     ensures within { result ≡ true → place < length groups.now }
     ensures mask { result ≡ true → (d : GroupRecord) → (slice_index_or groups.now place d).mask ≡ mask.bits }
@@ -141,7 +143,7 @@ fn stands_at(groups: &[Group], place: usize, mask: Mask) -> bool
     place < groups.len() && groups[place].is_of(mask)
 }
 
-// Where the group of that mask stands.
+// The place of the group of that mask.
 #[cold]
 #[inline(never)]
 fn place_of(groups: &[Group], mask: Mask) -> usize {
@@ -151,7 +153,7 @@ fn place_of(groups: &[Group], mask: Mask) -> usize {
         .unwrap_or(0)
 }
 
-// The scan of the group of that mask, by a walk over all groups.
+// The scan of the group of that mask, found by a walk over all groups.
 #[cold]
 #[inline(never)]
 fn scan_under(groups: &[Group], mask: Mask) -> &[u8]

@@ -1,4 +1,4 @@
-//! What asks a device's sensor: a trigger's entry, a READ of `raw`, a look at the thresholds.
+//! The calls that ask a device's sensor: the handling of a trigger's entry, a READ of `raw`, a look at the thresholds.
 
 ghost use Rattle.std.specs.Prelude.{◌≡◌, ◌==◌, ◌&&◌, ◌-◌, ◌^◌, ◌<◌, not, true, ⊤, length};
 ghost use Rattle.iio_device.specs.Sensing.{begun, channels_sensed, sense_result};
@@ -18,9 +18,9 @@ use iio_trigger::Due;
 pub enum Handled {
     /// The sensor was asked, and this number of members were offered their scans.
     Captured(u32),
-    /// Nothing was asked.
+    /// The sensor wasn't asked.
     Idle,
-    /// The ask failed.
+    /// The sensor's ask failed.
     Fault,
 }
 
@@ -29,9 +29,9 @@ pub enum Handled {
 pub enum RawFault {
     /// The device is unplugged.
     Gone,
-    /// It has a member.
+    /// The device has a member.
     Busy,
-    /// The ask failed.
+    /// The sensor's ask failed.
     Fault,
 }
 
@@ -49,7 +49,7 @@ pub enum Sensed {
 impl<Q: Tail> IioDev<Q> {
     ghost use Rattle.iio_device.specs.Standing.{standing_of};
 
-    // Whether the entry is this device's and current, and captures don't end.
+    // Whether the entry is this device's and current, and there may be another capture.
     fn is_due(&self, due: &Due) -> bool
         ensures value { result ≡ (due.now.dev == self.now.number && is_current due.now.attachment self.now.attachment self.now.roster.members.items true
             && not (self.now.roster.captures == 2 ^ 64 - 1)) }
@@ -61,7 +61,7 @@ impl<Q: Tail> IioDev<Q> {
             && self.roster.captures != u64::MAX
     }
 
-    // Looks at the thresholds by asking a driver.
+    // Looks at the thresholds, asking a driver for the values.
     fn sense_by<P: Sensor>(&mut self, plug: &mut P, t: i64) -> Result<u32, Fault>
         ensures driver { P.driver plug.new
             ≡ (channels_sensed self.old.roster.shape t (length self.old.roster.shape.channels) (begun (P.driver plug.old) self.old.stored.monitor)).driver }
@@ -79,9 +79,10 @@ impl<Q: Tail> IioDev<Q> {
 }
 
 impl<Q: Tail> Fitted<IioDev<Q>> {
-    /// Handles a trigger's entry: where it is due, the sensor is asked once, and each member is offered its own scan,
-    /// once. `Idle`, with no ask: the entry is another device's or of an earlier attachment, there is no member, the
-    /// device is unplugged, or it had 2^64 - 1 captures. `Fault`: the ask failed, and the sensor alone has changed.
+    /// Handles a trigger's entry: if it is due, the sensor is asked once, and each member is offered its own scan, once.
+    /// Returns `Idle`, with no ask, if the entry is another device's or of an earlier attachment, there is no member, the
+    /// device is unplugged, or it has had 2^64 - 1 captures. Returns `Fault` if the ask failed; then only the sensor has
+    /// changed.
     pub fn handle(&mut self, due: &Due) -> Handled
         requires { ⊤ }
         ensures { Handles Q.taken Q.lost Q.size Q.capacity Q.offer_gives due.now result (view_of ⟦<Plug as Sensor>⟧.driver self.old.core self.old.plug)
@@ -99,8 +100,8 @@ impl<Q: Tail> Fitted<IioDev<Q>> {
         }
     }
 
-    /// A sample of channel `c` at a moment: the value of its element 0. The sensor is asked once; not at all where the
-    /// device is unplugged (`Gone`) or has a member (`Busy`).
+    /// Returns a sample of channel `c` at the moment `t`: the value of its element 0. The sensor is asked once, but isn't asked
+    /// if the device is unplugged (`Gone`) or has a member (`Busy`).
     pub fn raw(&mut self, c: u32, t: i64) -> Result<i64, RawFault>
         requires { c < length self.old.core.roster.shape.channels }
         ensures answer { result ≡ raw_answer c t (view_of ⟦<Plug as Sensor>⟧.driver self.old.core self.old.plug) }
@@ -117,8 +118,7 @@ impl<Q: Tail> Fitted<IioDev<Q>> {
             .map_err(|_| RawFault::Fault)
     }
 
-    /// Looks at the thresholds: the sensor is asked for each channel that has one enabled, in their order, until an ask
-    /// fails.
+    /// Looks at the thresholds: asks the sensor for each channel that has one enabled, in their order, until an ask fails.
     pub fn sense(&mut self, t: i64) -> Sensed
         requires { ⊤ }
         ensures answer { result ≡ sense_answer t (view_of ⟦<Plug as Sensor>⟧.driver self.old.core self.old.plug) }

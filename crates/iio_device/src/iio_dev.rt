@@ -10,16 +10,16 @@ use crate::totals::Totals;
 use iio_attr::Name;
 use iio_kfifo::Tail;
 
-/// What the core keeps of a device: all but its driver (kernel: `struct iio_dev`).
+/// What the core keeps of a device: everything except its driver (kernel: `struct iio_dev`).
 #[derive(Drop)]
 pub struct IioDev<Q: Tail> {
     pub roster: Roster<Q>,
     pub name: Name,
-    /// Its number in the description.
+    /// The device's number in the description.
     pub number: u32,
-    /// The number of its trigger, below 16. There is one where there is a member.
+    /// The number of its trigger, below 16. A device that has a member has a trigger.
     pub trigger: Option<u32>,
-    /// How often a first member has joined: the number of the present attachment.
+    /// The number of times that a first member has joined; it is the number of the present attachment.
     pub attachment: u64,
     pub stored: Stored,
     pub totals: Totals,

@@ -1,4 +1,4 @@
-//! Members that come and go.
+//! How members join and leave.
 
 ghost use Rattle.std.specs.Prelude.{◌≡◌, ◌+◌, ◌-◌, ◌^◌, ◌==◌, ◌&&◌, ◌||◌, ◌≤◌, ◌<◌, nat_lt, ⊤, true, false, is_some, Some, None};
 ghost use Rattle.std.specs.Option.{option_copied};
@@ -19,7 +19,7 @@ use iio_mask::Mask;
 use iio_sensor::Sensor;
 use iio_trigger::Trigger;
 
-// Whether a mask has bits below that number of channels alone.
+// Whether all bits of a mask are below that number of channels.
 fn is_below(mask: Mask, channels: u32) -> bool
     requires { channels ≤ 64 }
     ensures { result ≡ nat_lt mask.bits (2 ^ channels) }
@@ -42,7 +42,7 @@ fn has_no_place(number: u32, trigger: &Trigger) -> bool
 }
 
 impl<Q: Tail> IioDev<Q> {
-    // Takes a place at the trigger, for a new attachment.
+    // Begins an attachment: takes a place at the trigger.
     fn attach(&mut self, trigger: &mut Trigger)
         requires fewer { self.old.attachment < self.old.roster.next }
         requires fits { self.old.attachment < 2 ^ 64 - 1 }
@@ -58,10 +58,10 @@ impl<Q: Tail> IioDev<Q> {
 }
 
 impl<Q: Tail> Fitted<IioDev<Q>> {
-    /// Whether a member could join under that mask. Refused in this order: `Gone`, the device is unplugged; `BadMask`, a
-    /// bit at or above the number of channels, or no data channel; `NoTrigger`, the device has none; `NoUnion`, the
-    /// sensor can be asked under no mask that serves all members; `NoPlace`, it would be the first member and the trigger
-    /// has no place, or 2^64 - 1 members have joined.
+    /// Whether a member could join under that mask. The refusals, in their order: `Gone` if the device is unplugged; `BadMask`
+    /// if the mask has a bit at or above the number of channels, or no data channel; `NoTrigger` if the device has none;
+    /// `NoUnion` if no mask that the sensor can be asked under serves all members; `NoPlace` if it would be the first member
+    /// and the trigger has no place, or if 2^64 - 1 members have joined.
     pub fn may_join(&self, mask: Mask, trigger: Option<&Trigger>) -> Result<(), JoinFault>
         requires { is_some trigger ≡ is_some self.now.core.trigger }
         ensures { result ≡ unless_refused tt
@@ -85,7 +85,7 @@ impl<Q: Tail> Fitted<IioDev<Q>> {
         Ok(())
     }
 
-    // Whether there is no place for one member more.
+    // Whether there is no place for another member.
     fn is_full(&self, trigger: &Trigger) -> bool
         ensures { result ≡ is_full (view_of ⟦<Plug as Sensor>⟧.driver self.now.core self.now.plug) (Some trigger.now) }
     {
@@ -93,9 +93,9 @@ impl<Q: Tail> Fitted<IioDev<Q>> {
             || self.core.roster.next == u64::MAX
     }
 
-    /// A member joins under that mask, with its queue's end: the next capture is its first. Refused as by `may_join`, and then
-    /// `Mem`; a refusal gives the queue's end back and changes nothing. All memory that the member needs until it leaves or
-    /// gets another mask is taken here.
+    /// Adds a member with that mask and that end of its queue: the next capture is its first. The refusals are those of
+    /// `may_join`, and then `Mem`; a refusal gives the queue's end back and changes nothing. All memory that the member needs
+    /// until it leaves or gets another mask is allocated here.
     pub fn join(
         &mut self,
         mask: Mask,
@@ -120,8 +120,8 @@ impl<Q: Tail> Fitted<IioDev<Q>> {
         Ok(Member { number })
     }
 
-    /// A member leaves, and gives its queue's end back; what it lost counts in the device's totals. None exactly where it isn't
-    /// live, and then nothing changes. The device's place at the trigger is freed with the last member.
+    /// Removes a member and returns its queue's end; what it lost counts in the device's totals. Returns `None`, and changes
+    /// nothing, exactly if the member isn't live. When the last member leaves, the device's place at the trigger is freed.
     pub fn leave(&mut self, member: Member, trigger: &mut Trigger) -> Option<Q>
         requires { ⊤ }
         ensures { LeavesDevice Q.lost member.number result (view_of ⟦<Plug as Sensor>⟧.driver self.old.core self.old.plug)

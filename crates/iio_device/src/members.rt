@@ -1,4 +1,4 @@
-//! What is made of all members, one after another.
+//! What is done to the members, one after another.
 
 ghost use Rattle.std.specs.Prelude.{◌≡◌, ◌==◌, ℕ, ◌+◌, ◌-◌, ◌*◌, ◌^◌, ◌<◌, ◌≤◌, true, All, IfNone, IfSome, None, Some, is_some, length, map, slice_index_or, slice_set, vec_capacity};
 ghost use Rattle.std.specs.List.{AllZip, IsDistinct};
@@ -26,7 +26,7 @@ pub(crate) fn union_mask<Q>(members: &[Membership<Q>]) -> Mask
     union
 }
 
-/// The union of the masks of the members of other numbers.
+/// The union of the masks of all members except the one of that number.
 pub(crate) fn union_of_others<Q>(members: &[Membership<Q>], number: u64) -> Mask
     ensures { result.bits ≡ union_of_all (masks_of (without number members.now)) }
 {
@@ -46,7 +46,7 @@ pub(crate) fn is_wanted<Q>(members: &[Membership<Q>], mask: Mask) -> bool
     members.iter().any(|member| member.mask.bits == mask.bits)
 }
 
-// Where the member of that number stands, by a walk over all members.
+// The place of the member of that number, found by a walk over all members.
 fn walk_to<Q>(members: &[Membership<Q>], number: u64) -> Option<usize>
     ensures live { is_some result ≡ is_live number members.now }
     ensures none { IfNone result (member_of number members.now ≡ None) }
@@ -62,7 +62,7 @@ fn walk_to<Q>(members: &[Membership<Q>], number: u64) -> Option<usize>
     None
 }
 
-// Whether the member of that number stands there.
+// Whether the member at place `at` has that number.
 fn stands_at<Q>(members: &[Membership<Q>], at: usize, number: u64) -> bool
     ensures within { result ≡ true → at < length members.now }
     ensures number { result ≡ true → (d : Membership Q) → (slice_index_or members.now at d).number ≡ number }
@@ -70,8 +70,8 @@ fn stands_at<Q>(members: &[Membership<Q>], at: usize, number: u64) -> bool
     at < members.len() && members[at].number == number
 }
 
-// Where a member of that number stands if none left between the first member's joining and its own, or at the last place
-// where that is past it. Members stand in the order of their joining, which their numbers count.
+// The place of the member of that number if no member left between the joining of the first one and its own; the last place if
+// that one is past it. Members stand in the order in which they joined, which their numbers count.
 fn likely_place<Q>(members: &[Membership<Q>], number: u64) -> usize {
     if members.is_empty() {
         return 0;
@@ -80,7 +80,7 @@ fn likely_place<Q>(members: &[Membership<Q>], number: u64) -> usize {
     joined_before.min(members.len() - 1)
 }
 
-/// Where the member of that number stands.
+/// The place of the member of that number.
 pub(crate) fn position_of<Q>(members: &[Membership<Q>], number: u64) -> Option<usize>
     requires apart { IsDistinct (λ a b. a == b) (map (λ (m : Membership Q). m.number) members.now) }
     ensures live { is_some result ≡ is_live number members.now }
@@ -96,7 +96,7 @@ pub(crate) fn position_of<Q>(members: &[Membership<Q>], number: u64) -> Option<u
     walk_to(members, number)
 }
 
-/// The member at that place begins anew, under another mask and with another queue's end. Its old end comes back.
+/// Gives the member at that place another mask and another queue's end: it begins anew. Returns its old end.
 pub(crate) fn begin_anew_at<Q: Tail>(
     members: &mut Vec<Membership<Q>>,
     at: usize,
@@ -115,7 +115,7 @@ pub(crate) fn begin_anew_at<Q: Tail>(
     replace(&mut member.tail, tail)
 }
 
-// Offers a member its scan of the active one.
+// Offers a member its own scan of a capture: `union`, the one under the active mask, or that of its mask's group.
 fn offer_one<Q: Tail>(
     member: &mut Membership<Q>,
     groups: &[Group],
@@ -133,8 +133,8 @@ fn offer_one<Q: Tail>(
         .offer(scan_for(groups, active, union, member.mask, place));
 }
 
-/// Offers each member its scan of the active one, once. Its group is looked for first at the member's place among `places`,
-/// where it was found last.
+/// Offers each member its own scan of a capture, once: `union`, the one under the active mask, or that of its mask's group. The
+/// group is looked for first at the member's place in `places`, where it was found last.
 pub(crate) fn offer_all<Q: Tail>(
     members: &mut Vec<Membership<Q>>,
     places: &mut Vec<usize>,
@@ -156,7 +156,7 @@ pub(crate) fn offer_all<Q: Tail>(
     }
 }
 
-// Moves the oldest scan of the member at that place into `out`, and says whether there was one.
+// Moves the oldest scan of the member at that place into `out`, and returns whether there was one.
 pub(crate) fn take_at(members: &mut Vec<Membership<Kfifo>>, at: usize, out: &mut [u8]) -> bool
     requires within { at < length members.old.items }
     requires size { (d : Membership Queue) → length out.old ≡ (slice_index_or members.old.items at d).tail.size }
@@ -166,7 +166,7 @@ pub(crate) fn take_at(members: &mut Vec<Membership<Kfifo>>, at: usize, out: &mut
     members[at].tail.take(out)
 }
 
-// Moves up to `most` of the oldest scans of the member at that place after what stands in `out`, and says how many there were.
+// Appends the oldest scans of the member at that place, at most `most`, to `out`, and returns their number.
 pub(crate) fn take_scans_at(
     members: &mut Vec<Membership<Kfifo>>,
     at: usize,

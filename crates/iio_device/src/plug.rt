@@ -9,7 +9,7 @@ use iio_sensor::{Fault, Recorded, Sensor};
 /// What a device samples.
 #[derive(Drop)]
 pub enum Plug {
-    /// Values that the description recorded.
+    /// The rows that the description recorded.
     Own(Recorded),
     /// A driver that was handed in.
     Given(Box<dyn Sensor + Send>),

@@ -16,9 +16,10 @@ use iio_mask::Mask;
 use iio_sensor::Sensor;
 
 impl<Q: Tail> Fitted<IioDev<Q>> {
-    /// Whether a member could have that mask in place of its own. Refused in this order: `Gone`, the device is unplugged;
-    /// `NotLive`, the member isn't live; `BadMask`, a bit at or above the number of channels, or no data channel;
-    /// `NoUnion`, the sensor can be asked under no mask that serves the other members and this one. Never `Mem`.
+    /// Whether a member could get that mask in place of its own. The refusals, in their order: `Gone` if the device is
+    /// unplugged; `NotLive` if the member isn't live; `BadMask` if the mask has a bit at or above the number of channels, or no
+    /// data channel; `NoUnion` if no mask that the sensor can be asked under serves the other members and this one. It is never
+    /// `Mem`.
     pub fn may_remask(&self, member: &Member, mask: Mask) -> Result<(), RemaskFault>
         ensures { result ≡ unless_refused tt
             (first_refusal (remask_faults (view_of ⟦<Plug as Sensor>⟧.driver self.now.core self.now.plug) member.now.number mask.bits)) }
@@ -38,10 +39,10 @@ impl<Q: Tail> Fitted<IioDev<Q>> {
         Ok(())
     }
 
-    /// A member begins anew under another mask, with another queue's end: the next capture is the first that this takes or
-    /// loses. The member keeps its number and its place among the members. Its old queue's end comes back, and what that lost
-    /// counts in the device's totals. Refused as by `may_remask`, and then `Mem`; a refusal gives the new end back and changes
-    /// nothing. All memory that the exchange needs is taken before anything changes.
+    /// Gives a member another mask and another queue's end: it begins anew, and the next capture is the first that this end
+    /// takes or loses. The member keeps its number and its place among the members. Returns the old queue's end; what that lost
+    /// counts in the device's totals. The refusals are those of `may_remask`, and then `Mem`; a refusal gives the new end back
+    /// and changes nothing. All memory that the exchange needs is allocated before anything changes.
     pub fn remask(&mut self, member: &Member, mask: Mask, tail: Q) -> Result<Q, RemaskRefused<Q>>
         requires size { Q.size tail ≡ scan_size self.old.core.roster.shape mask.bits }
         requires fresh { Q.taken tail + Q.lost tail ≡ 0 }

@@ -32,12 +32,12 @@ use iio_scan_type::MAX_CHANNEL_SIZE;
 use iio_sensor::{Fault, Sensor};
 use std::alloc::Global;
 
-/// A device's members, in the order of their joining.
+/// A device's members, in the order in which they joined.
 #[derive(Drop)]
 pub struct Roster<Q: Tail> {
     alloc: Global,
     pub shape: Shape,
-    /// The mask that the sensor is asked under; none without a member.
+    /// The mask that the sensor is asked under; `None` if there is no member.
     pub active: Option<Mask>,
     pub captures: u64,
     /// The number of the next member.
@@ -46,9 +46,9 @@ pub struct Roster<Q: Tail> {
     groups: Vec<Group>,
     // The union of the members' masks.
     wanted: Mask,
-    // Where each member's group was found last.
+    // For each member, the place where its group was found last.
     places: Vec<usize>,
-    // The bytes of a scan under the active mask, and room for it.
+    // The size in bytes of a scan under the active mask, and room for it.
     size: u32,
     room: Vec<u8>,
     ghost sound: { IsSound Q.taken Q.lost Q.size shape active captures next members.items groups.items } by { Prim.hlevel props },
@@ -63,19 +63,19 @@ pub struct Roster<Q: Tail> {
 pub enum JoinFault {
     /// The device is unplugged.
     Gone,
-    /// The mask has a channel that the device hasn't, or no data channel.
+    /// The mask has a channel that the device doesn't have, or no data channel.
     BadMask,
     /// The device has no trigger.
     NoTrigger,
-    /// The sensor can be asked under no mask that serves all members.
+    /// No mask that the sensor can be asked under serves all members.
     NoUnion,
     /// The trigger has no place for the device, or 2^64 - 1 members have joined.
     NoPlace,
-    /// Want of memory.
+    /// Memory ran out.
     Mem,
 }
 
-/// A join that was refused. It gives the queue's end back.
+/// A refused join, with the queue's end given back.
 pub struct JoinRefused<Q> {
     pub fault: JoinFault,
     pub tail: Q,
@@ -88,21 +88,21 @@ pub enum RemaskFault {
     Gone,
     /// The member isn't live.
     NotLive,
-    /// The mask has a channel that the device hasn't, or no data channel.
+    /// The mask has a channel that the device doesn't have, or no data channel.
     BadMask,
-    /// The sensor can be asked under no mask that serves the other members and this one.
+    /// No mask that the sensor can be asked under serves the other members and this one.
     NoUnion,
-    /// Want of memory.
+    /// Memory ran out.
     Mem,
 }
 
-/// A refused exchange of a mask. It gives the new queue's end back.
+/// A refused exchange of a mask, with the new queue's end given back.
 pub struct RemaskRefused<Q> {
     pub fault: RemaskFault,
     pub tail: Q,
 }
 
-/// The mask that the sensor is asked under for these members, whose masks have that union.
+/// The mask that the sensor is asked under for these members; `wanted` is the union of their masks.
 fn active_for<Q>(shape: &Shape, members: &[Membership<Q>], wanted: Mask) -> Option<Mask>
     requires each { All (λ (m : Membership Q). m.mask.bits < 2 ^ count_of shape.now) members.now }
     requires wanted { wanted.bits ≡ union_of_all (masks_of members.now) }
@@ -116,7 +116,7 @@ fn active_for<Q>(shape: &Shape, members: &[Membership<Q>], wanted: Mask) -> Opti
     active(shape, wanted)
 }
 
-// Adds a group, where there is one to add.
+// Adds a group if there is one to add.
 fn add_group(groups: &mut Vec<Group>, group: Option<Group>)
     requires { vec_len groups.old < vec_capacity groups.old }
     ensures { groups.new.items ≡ with_group group groups.old.items }
@@ -126,7 +126,7 @@ fn add_group(groups: &mut Vec<Group>, group: Option<Group>)
     }
 }
 
-// Takes out the group of that mask.
+// Removes the group of that mask.
 fn drop_group(groups: &mut Vec<Group>, gone: Mask)
     ensures kept { groups.new.items ≡ filter (λ (g : GroupRecord). not (g.mask == gone.bits)) groups.old.items }
     ensures bound { vec_len groups.new ≤ vec_len groups.old }
@@ -135,7 +135,7 @@ fn drop_group(groups: &mut Vec<Group>, gone: Mask)
     groups.retain(|group| !group.is_of(gone));
 }
 
-// Keeps the groups that a member wants, where each other group than that of one mask is wanted.
+// Keeps the groups that a member wants, if every group except that of the mask `gone` is wanted.
 fn keep_wanted<Q>(groups: &mut Vec<Group>, members: &[Membership<Q>], gone: Mask)
     requires { All (λ (g : GroupRecord). (is_wanted members.now g.mask || g.mask == gone.bits) ≡ true) groups.old.items }
     ensures kept { groups.new.items ≡ filter (λ (g : GroupRecord). is_wanted members.now g.mask) groups.old.items }
@@ -148,7 +148,7 @@ fn keep_wanted<Q>(groups: &mut Vec<Group>, members: &[Membership<Q>], gone: Mask
     drop_group(groups, gone);
 }
 
-// Makes the tables again, where there is an active mask and it isn't the one that they are made for.
+// Makes the tables again if there is an active mask and it isn't the one before, for which they were made.
 fn remake_for(groups: &mut Vec<Group>, shape: &Shape, before: Option<Mask>, active: Option<Mask>)
     requires below { IfSome active (λ m. m.bits < 2 ^ count_of shape.now) }
     requires within { IfSome active (λ m. All (λ (g : GroupRecord). is_within g.mask m.bits ≡ true) groups.old.items) }
@@ -164,7 +164,7 @@ fn remake_for(groups: &mut Vec<Group>, shape: &Shape, before: Option<Mask>, acti
     }
 }
 
-// The bytes of a scan under the mask that the sensor is asked under; of the empty one without a member.
+// The size in bytes of a scan under the mask that the sensor is asked under, or under the empty mask if there is no member.
 fn asked_size(shape: &Shape, active: Option<Mask>) -> u32
     requires { IfSome active (λ m. m.bits < 2 ^ count_of shape.now) }
     ensures { IsSize shape.now active result }
@@ -172,7 +172,7 @@ fn asked_size(shape: &Shape, active: Option<Mask>) -> u32
     scan_size(shape, active.unwrap_or(Mask { bits: 0 }))
 }
 
-// The bytes of a scan under the mask that the sensor is asked under, where a scan under the mask before has `size` bytes.
+// The size in bytes of a scan under the mask that the sensor is asked under, if `size` is that under the mask before.
 fn asked_size_after(shape: &Shape, before: Option<Mask>, size: u32, active: Option<Mask>) -> u32
     requires below { IfSome active (λ m. m.bits < 2 ^ count_of shape.now) }
     requires size { IsSize shape.now before size }
@@ -184,7 +184,7 @@ fn asked_size_after(shape: &Shape, before: Option<Mask>, size: u32, active: Opti
     asked_size(shape, active)
 }
 
-// Asks a driver for a capture's scan of `size` bytes, into the first bytes of the room.
+// Asks a driver for a capture; its scan of `size` bytes is put into the first bytes of the room.
 fn ask<P: Sensor>(
     plug: &mut P,
     shape: &Shape,
@@ -207,7 +207,7 @@ fn ask<P: Sensor>(
 impl<Q: Tail> Roster<Q> {
     ghost use Rattle.iio_device.specs.Standing.{standing_of};
 
-    /// No member, at a device of that shape. Its room for scans is made here.
+    /// A roster without a member, for a device of that shape. Its room for scans is allocated here.
     pub(crate) fn new(alloc: Global, shape: Shape) -> Result<Roster<Q>, Mem>
         ensures { IfOk result (λ r. standing_of r ≡ nobody shape) }
     {
@@ -228,7 +228,7 @@ impl<Q: Tail> Roster<Q> {
         })
     }
 
-    /// The mask that the sensor would be asked under with one member more, of this mask.
+    /// The mask that the sensor would be asked under with another member, of this mask.
     pub(crate) fn active_with(&self, mask: Mask) -> Option<Mask>
         requires { mask.bits < 2 ^ count_of self.now.shape }
         ensures value { bits_of result ≡ active_with mask.bits (standing_of self.now) }
@@ -243,7 +243,7 @@ impl<Q: Tail> Roster<Q> {
         active(&self.shape, wanted)
     }
 
-    // Makes room for one group more, and the group of that mask where there is none.
+    // Makes room for another group, and makes the group of that mask if there is none.
     fn grow_groups(&mut self, active: Mask, mask: Mask) -> Result<Option<Group>, Mem>
         requires below { active.bits < 2 ^ count_of self.old.shape }
         requires own { mask.bits < 2 ^ count_of self.old.shape }
@@ -263,7 +263,7 @@ impl<Q: Tail> Roster<Q> {
         Ok(Some(Group::new(self.alloc, &self.shape, active, mask)?))
     }
 
-    // Makes room for one member more, and the group of its mask where there is none.
+    // Makes room for another member, and makes the group of its mask if there is none.
     fn grow(&mut self, active: Mask, mask: Mask) -> Result<Option<Group>, Mem>
         requires below { active.bits < 2 ^ count_of self.old.shape }
         requires own { mask.bits < 2 ^ count_of self.old.shape }
@@ -285,7 +285,7 @@ impl<Q: Tail> Roster<Q> {
         self.grow_groups(active, mask)
     }
 
-    // The active mask with one member more, and what `grow` makes for it; or why there is to be none.
+    // Returns the active mask with another member, and what `grow` makes for that one; or why it is refused.
     fn prepare(&mut self, mask: Mask) -> Result<(Mask, Option<Group>), JoinFault>
         requires { mask.bits < 2 ^ count_of self.old.shape }
         ensures same { standing_of self.new ≡ standing_of self.old }
@@ -313,7 +313,7 @@ impl<Q: Tail> Roster<Q> {
         Ok((active, group))
     }
 
-    /// A member more. Where it is refused, the queue's end comes back, and nothing changes.
+    /// Adds a member, and returns its number. A refusal gives the queue's end back and changes nothing.
     pub(crate) fn join(&mut self, mask: Mask, tail: Q) -> Result<u64, JoinRefused<Q>>
         requires own { mask.bits < 2 ^ count_of self.old.shape }
         requires channel { has_data self.old.shape mask.bits ≡ true }
@@ -342,8 +342,8 @@ impl<Q: Tail> Roster<Q> {
         Ok(number)
     }
 
-    /// A member less; its queue's end comes back, and the others get tables for their own active mask. `None` comes exactly
-    /// where no member has that number, and then nothing changes.
+    /// Removes the member of that number, and returns its queue's end; the other members get tables for their own active mask.
+    /// Returns `None`, and changes nothing, exactly if no member has that number.
     pub(crate) fn leave(&mut self, number: u64) -> Option<Q>
         ensures { Leaves number result (standing_of self.old) (standing_of self.new) }
     {
@@ -355,7 +355,7 @@ impl<Q: Tail> Roster<Q> {
             tail,
         } = self.members.remove(at);
         let _ = self.places.remove(at);
-        // Another member of that mask wants all that this one did.
+        // Another member of that mask wants everything that this one did.
         if is_wanted(&self.members, mask) {
             return Some(tail);
         }
@@ -369,7 +369,7 @@ impl<Q: Tail> Roster<Q> {
         Some(tail)
     }
 
-    /// The mask that the sensor would be asked under, with the member of that number under that mask.
+    /// The mask that the sensor would be asked under if the member of that number had that mask.
     pub(crate) fn active_under(&self, number: u64, mask: Mask) -> Option<Mask>
         requires { mask.bits < 2 ^ count_of self.now.shape }
         ensures value { bits_of result ≡ active_under number mask.bits (standing_of self.now) }
@@ -383,7 +383,8 @@ impl<Q: Tail> Roster<Q> {
         )
     }
 
-    // The active mask with that member under that mask, and what `grow_groups` makes for it; or why the exchange is refused.
+    // Returns the active mask if that member had that mask, and what `grow_groups` makes for it; or why the exchange is
+    // refused.
     fn prepare_remask(
         &mut self,
         number: u64,
@@ -410,8 +411,8 @@ impl<Q: Tail> Roster<Q> {
         }
     }
 
-    /// The member of that number begins anew under another mask, with another queue's end, and its old end comes back. Where
-    /// that is refused, the new end comes back, and nothing changes.
+    /// Gives the member of that number another mask and another queue's end: it begins anew. Returns its old end. A refusal
+    /// gives the new end back and changes nothing.
     pub(crate) fn remask(&mut self, number: u64, mask: Mask, tail: Q) -> Result<Q, RemaskRefused<Q>>
         requires own { mask.bits < 2 ^ count_of self.old.shape }
         requires channel { has_data self.old.shape mask.bits ≡ true }
@@ -438,7 +439,7 @@ impl<Q: Tail> Roster<Q> {
         Ok(before)
     }
 
-    /// The mask that the sensor is asked under; the empty one without a member.
+    /// The mask that the sensor is asked under; the empty mask if there is no member.
     pub(crate) fn asked(&self) -> Mask
         ensures value { result.bits ≡ unwrap_or (bits_of self.now.active) 0 }
         ensures below { result.bits < 2 ^ count_of self.now.shape }
@@ -446,7 +447,7 @@ impl<Q: Tail> Roster<Q> {
         self.active.unwrap_or(Mask { bits: 0 })
     }
 
-    // Offers each member its own scan of a capture, whose scan under the active mask is the first `size` bytes of the room.
+    // Offers each member its own scan of a capture. The first `size` bytes of the room are the scan under the active mask.
     #[inline(never)]
     fn capture(&mut self, size: usize)
         requires size { size ≡ scan_size self.old.shape (unwrap_or (bits_of self.old.active) 0) }
@@ -471,8 +472,8 @@ impl<Q: Tail> Roster<Q> {
         self.captures += 1;
     }
 
-    /// A capture by a driver: it is asked once, under the active mask. Where that succeeds, the scan of each distinct mask is
-    /// laid out once, each member is offered its own, and the answer is how many were.
+    /// Makes a capture by a driver, which is asked once, under the active mask. If that succeeds, the scan of each distinct
+    /// mask is laid out once, each member is offered its own, and the number of members is returned.
     pub(crate) fn capture_by<P: Sensor>(&mut self, plug: &mut P, t: i64) -> Result<usize, Fault>
         requires { self.old.captures < 2 ^ 64 - 1 }
         ensures asked { P.driver plug.new ≡ after_capture (P.driver plug.old) t (unwrap_or (bits_of self.old.active) 0) }
@@ -488,7 +489,7 @@ impl<Q: Tail> Roster<Q> {
         Ok(self.len() as usize)
     }
 
-    /// The number of the first member to have joined. `None` comes exactly where there is no member.
+    /// Returns the number of the member that joined first, of those that are there; `None` exactly if there is no member.
     pub(crate) fn first_member(&self) -> Option<u64>
         ensures { result ≡ first_number self.now.members.items }
     {
@@ -498,28 +499,28 @@ impl<Q: Tail> Roster<Q> {
         Some(self.members[0].number)
     }
 
-    /// How many members there are.
+    /// The number of members.
     pub(crate) fn len(&self) -> u32
         ensures { result ≡ length self.now.members.items }
     {
         self.members.len() as u32
     }
 
-    /// How many masks the members have, where those that are equal count once.
+    /// The number of distinct masks of the members.
     pub(crate) fn groups(&self) -> u32
         ensures { result ≡ mask_count self.now.members.items }
     {
         self.groups.len() as u32
     }
 
-    /// Whether the member of that number is there.
+    /// Whether a member has that number.
     pub(crate) fn is_live(&self, number: u64) -> bool
         ensures { result ≡ is_live number self.now.members.items }
     {
         position_of(&self.members, number).is_some()
     }
 
-    /// Whether the member of that number is there, and of that mask.
+    /// Whether a member has that number and that mask.
     pub(crate) fn is_live_under(&self, number: u64, mask: Mask) -> bool
         ensures { result ≡ is_live_under number mask.bits self.now.members.items }
     {
@@ -529,7 +530,7 @@ impl<Q: Tail> Roster<Q> {
         }
     }
 
-    /// How many scans the member of that number has lost. `None` comes exactly where no member has it.
+    /// Returns how many scans the member of that number has lost; `None` exactly if no member has it.
     pub(crate) fn lost(&self, number: u64) -> Option<u64>
         ensures { result ≡ option_map (λ (m : Membership Q). Q.lost m.tail) (member_of number self.now.members.items) }
     {
@@ -541,8 +542,8 @@ impl<Q: Tail> Roster<Q> {
 impl Roster<Kfifo> {
     ghost use Rattle.iio_device.specs.Standing.{standing_of};
 
-    /// Moves the oldest scan of the member of that number into `out`, and says whether there was one. `None` comes exactly
-    /// where no member has that number, or `out` hasn't the size of its scans, and then nothing changes.
+    /// Moves the oldest scan of the member of that number into `out`, and returns whether there was one. Returns `None`, and
+    /// changes nothing, exactly if no member has that number or the length of `out` isn't the size of its scans.
     pub(crate) fn take(&mut self, number: u64, out: &mut [u8]) -> Option<bool>
         ensures { Takes number result out.old out.new (standing_of self.old) (standing_of self.new) }
     {
@@ -553,9 +554,8 @@ impl Roster<Kfifo> {
         Some(take_at(&mut self.members, at, out))
     }
 
-    /// Moves up to `most` of the oldest scans of the member of that number and that mask after what stands in `out`, one
-    /// after the other, and says how many there were. `None` comes exactly where there is no such member, and then nothing
-    /// changes.
+    /// Appends the oldest scans of the member of that number and that mask, at most `most`, to `out`, one after another, and
+    /// returns their number. Returns `None`, and changes nothing, exactly if there is no such member.
     pub(crate) fn take_scans(
         &mut self,
         number: u64,
@@ -575,7 +575,7 @@ impl Roster<Kfifo> {
         Some(take_scans_at(&mut self.members, at, most, out))
     }
 
-    /// How many scans wait for the member of that number. `None` comes exactly where no member has it.
+    /// Returns how many scans wait for the member of that number; `None` exactly if no member has it.
     pub(crate) fn waiting(&self, number: u64) -> Option<u32>
         ensures { result ≡ option_map (λ (m : Membership Queue). length m.tail.scans) (member_of number self.now.members.items) }
     {

@@ -16,7 +16,7 @@ fn is_watched(monitor: &Monitor, c: u32) -> bool
     monitor.on(c, Edge::Rising) || monitor.on(c, Edge::Falling)
 }
 
-// Asks channel `c`, where it is watched; says how many events fired.
+// Asks for a value of channel `c` if it is watched; returns how many events fired.
 fn sense_one<P: Sensor>(
     plug: &mut P,
     monitor: &mut Monitor,
@@ -39,7 +39,7 @@ fn sense_one<P: Sensor>(
     Ok(monitor.sense(c, value, t))
 }
 
-/// Asks each watched channel, one after the other, until an ask fails; says how many events fired.
+/// Asks for a value of each watched channel, one after another, until an ask fails; returns how many events fired.
 pub(crate) fn sense_all<P: Sensor>(
     plug: &mut P,
     monitor: &mut Monitor,

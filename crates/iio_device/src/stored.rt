@@ -11,7 +11,7 @@ use iio_layout::Shape;
 use iio_sensor::MAX_BIASES;
 use std::alloc::Global;
 
-/// The values of a channel's attributes that are only kept.
+/// The values of those attributes of a channel that are only kept.
 #[derive(Clone, Copy, Debug, PartialEq, Eq)]
 pub struct ChannelValues {
     pub scale: Fixed,
@@ -19,7 +19,7 @@ pub struct ChannelValues {
     pub calibscale: Fixed,
 }
 
-/// What a device keeps of its attributes, channel 0 first. A channel's bias is kept by the driver.
+/// What a device keeps of its attributes; channel 0 comes first. The driver keeps a channel's bias.
 #[derive(Debug, Drop)]
 pub struct Stored {
     pub sampling_frequency: Fixed,
@@ -35,7 +35,7 @@ impl Stored {
     ghost use Rattle.iio_device.specs.Site.{new_site};
     ghost use Rattle.iio_device.specs.Stored.{site_with};
 
-    /// What a device of that shape keeps before any attribute was written. All memory that it ever takes is taken here.
+    /// What a device of that shape keeps before any attribute is written. All memory that it ever needs is allocated here.
     pub fn new(alloc: Global, shape: &Shape) -> Result<Stored, Mem>
         ensures site { IfOk result
             (λ stored. (trigger : Option ℕ) (driver : Driver) → site_with true trigger 0 driver stored ≡ new_site shape.now trigger driver) }

@@ -1,4 +1,4 @@
-//! What a device's queues gave and lost in all.
+//! The totals of what a device's queues gave and lost.
 
 ghost use Rattle.std.specs.Prelude.{◌≡◌, ◌+◌, ◌<◌, length};
 ghost use Rattle.std.specs.List.{sum};
@@ -7,19 +7,19 @@ ghost use Rattle.iio_device.specs.Totals.{no_totals, with_bytes, with_lost, with
 use iio_base::Sum;
 use std::simd::prelude::*;
 
-/// What the queues of a device gave to its members, and what those that ended had lost: a queue ends where its member leaves or
-/// gets another mask.
+/// What the queues of a device gave to its members, and what the queues that ended had lost. A queue ends when its member
+/// leaves or gets another mask.
 #[derive(Drop)]
 pub struct Totals {
-    /// How many scans were taken from them.
+    /// The number of scans that were taken from them.
     pub scans: Sum,
-    /// The sum of all bytes of these scans.
+    /// The sum of the values of all bytes of these scans.
     pub bytes: Sum,
-    /// How many scans were lost because a queue was full, of the queues that ended.
+    /// The number of scans that were lost because a queue was full, over the queues that ended.
     pub lost: Sum,
 }
 
-// How many bytes are added at once, in 16 bits.
+// The number of bytes that are added at once, in 16 bits.
 const LANES: usize = 64;
 
 // The sum of `LANES` bytes.
@@ -33,7 +33,7 @@ fn lane_sum(bytes: &[u8]) -> u16
         .reduce_sum()
 }
 
-// The sum of fewer bytes.
+// The sum of fewer than `LANES` bytes.
 fn short_sum(bytes: &[u8]) -> u16
     requires { length bytes.now < LANES }
     ensures { result ≡ sum bytes.now }
@@ -59,7 +59,7 @@ fn add_bytes(total: &mut Sum, bytes: &[u8])
 }
 
 impl Totals {
-    /// Nothing yet.
+    /// Totals of nothing yet.
     pub fn new() -> Totals
         ensures { result ≡ no_totals }
     {
@@ -70,7 +70,7 @@ impl Totals {
         }
     }
 
-    /// `count` scans were taken, which have these bytes.
+    /// Counts `count` scans that were taken, which have these bytes.
     pub fn give(&mut self, count: u32, bytes: &[u8])
         ensures { self.new ≡ with_bytes count bytes.now self.old }
     {
@@ -78,7 +78,7 @@ impl Totals {
         add_bytes(&mut self.bytes, bytes);
     }
 
-    /// A take gave that scan, or none.
+    /// Counts the scan of a take if it gave one.
     pub fn count(&mut self, taken: Option<bool>, scan: &[u8])
         ensures { self.new ≡ with_taken taken scan.now self.old }
     {
@@ -88,7 +88,7 @@ impl Totals {
         }
     }
 
-    /// A queue ended that had lost `lost` scans.
+    /// Counts the scans that a queue had lost when it ended.
     pub fn lose(&mut self, lost: u64)
         ensures { self.new ≡ with_lost lost self.old }
     {

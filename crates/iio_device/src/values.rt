@@ -1,4 +1,4 @@
-//! What is written to a device's attributes and read of them.
+//! What is written to a device's attributes and read from them.
 
 ghost use Rattle.std.specs.Prelude.{◌≡◌, ◌<◌, ℕ, Bool, Option, Some, None, IfSome, IfOk, All, true, fold, length};
 ghost use Rattle.iio_sensor.specs.Driver.{Driver};
@@ -22,14 +22,14 @@ const ZERO: Fixed = Fixed {
     form: Form::Int,
 };
 
-/// The value of an attribute before any was written.
+/// The value of an attribute before any is written.
 pub(crate) fn at_first(attr: Attr) -> Fixed
     ensures { result ≡ at_first attr }
 {
     first_value(attr).unwrap_or(ZERO)
 }
 
-/// The values of a channel before any was written.
+/// The values of a channel before any is written.
 pub(crate) fn first_values() -> ChannelValues
     ensures { result ≡ first_values }
 {
@@ -80,8 +80,8 @@ fn write_channel<P: Sensor>(stored: &mut Stored, plug: &mut P, c: u32, attr: Att
     }
 }
 
-/// Sets an attribute of the device, or of the channel of that number. An attribute that can't be written or isn't there changes
-/// nothing.
+/// Sets an attribute of the device, or of the channel of that number. Nothing changes if the attribute can't be written or
+/// isn't there.
 pub(crate) fn write<P: Sensor>(
     stored: &mut Stored,
     plug: &mut P,
@@ -101,7 +101,7 @@ pub(crate) fn write<P: Sensor>(
     }
 }
 
-// The number in a value; 0 where there is none.
+// The number in a value; 0 if there is none.
 fn number_in(value: &Value) -> Fixed
     ensures { result ≡ number_in value.now }
 {
@@ -111,7 +111,7 @@ fn number_in(value: &Value) -> Fixed
     }
 }
 
-/// Makes the writes of a description, in their order.
+/// Makes the writes of a description's attribute lines, in their order.
 pub(crate) fn write_all<P: Sensor>(stored: &mut Stored, plug: &mut P, attrs: &[AttrDesc])
     requires { All (IsWrite (length stored.old.values.items)) attrs.now }
     ensures site { (plugged : Bool) (trigger : Option ℕ) (attachment : ℕ)
@@ -124,7 +124,7 @@ pub(crate) fn write_all<P: Sensor>(stored: &mut Stored, plug: &mut P, attrs: &[A
     }
 }
 
-// What a switch says: 1 where it is on, else 0.
+// The value of a switch: 1 if it is on, 0 otherwise.
 fn switch_value(on: bool) -> Value
     ensures { result ≡ switch_value on }
 {
@@ -142,7 +142,7 @@ fn read_device(stored: &Stored, name: &Name, attr: Attr) -> Value
     }
 }
 
-// The value of an attribute of channel `c`: of one that is kept.
+// The value of a kept attribute of channel `c`.
 fn read_channel<P: Sensor>(stored: &Stored, plug: &P, c: u32, attr: Attr) -> Value
     requires { c < length stored.now.values.items }
     ensures { (plugged : Bool) (trigger : Option ℕ) (attachment : ℕ)
@@ -170,9 +170,9 @@ fn read_channel<P: Sensor>(stored: &Stored, plug: &P, c: u32, attr: Attr) -> Val
     }
 }
 
-/// The value of an attribute of the device of that name, or of its channel of that number. What is only kept is a
-/// `Number`; a bias and a threshold are an `Int`, and a switch is 0 or 1. It is meant for attributes that are kept:
-/// `raw` is asked of the driver.
+/// Returns the value of an attribute of the device of that name, or of its channel of that number. A value that is only kept is
+/// a `Number`; a bias or a threshold is an `Int`, and so is a switch, which is 0 or 1. This is meant for kept attributes: the
+/// driver is asked for `raw`.
 pub(crate) fn read<P: Sensor>(
     stored: &Stored,
     plug: &P,

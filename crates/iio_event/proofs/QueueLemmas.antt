@@ -17,6 +17,6 @@ map_append : {X Y : Type 0} (f : X → Y) (xs ys : List X) → map f (xs ++ ys) 
 map_append f [] ys = refl
 map_append f (x ∷ xs) ys = ap (λ zs. f x ∷ zs) (map_append f xs ys)
 
--- one item more
+-- another item
 pub map-take-more : {X Y : Type 0} (f : X → Y) (xs : List X) (n : ℕ) (x : X) → slice_get xs n ≡ Some x → map f (take n xs) ++ f x ∷ [] ≡ map f (take (n + 1) xs)
 map-take-more f xs n x is = sym (rw add-one (ap (map f) (take_more xs n x is)) ∙ map_append f (take n xs) (x ∷ []))

@@ -75,7 +75,7 @@ fired_events value t w = fired_at Rising value t w ++ fired_at Falling value t w
 abbrev pub new_monitor : {Who : Type 0} → ShapeRecord → MonitorRecord Who
 new_monitor shape = record { channels = map idle_channel shape.channels; holder = None; events = [] }
 
--- channel c; where there is none, an idle one
+-- channel c, or an idle one if there is none
 abbrev pub channel_at : {Who : Type 0} → ℕ → MonitorRecord Who → Watched
 channel_at c m = slice_index_or m.channels c (record { kind = Voltage; suffix = Bare; rising = idle_watch; falling = idle_watch })
 
@@ -93,7 +93,7 @@ set_threshold c edge value m = with_channel c (with_watch edge (record (watch_at
 abbrev pub switch_edge : {Who : Type 0} → ℕ → Edge → Bool → MonitorRecord Who → MonitorRecord Who
 switch_edge c edge on m = with_channel c (with_watch edge (switched_watch on (watch_at c edge m)) (channel_at c m)) m
 
--- the queue after an event: it is kept while somebody holds the queue and fewer than 16 wait
+-- the queue after an event, which is kept while somebody holds the queue and fewer than 16 wait
 abbrev pub queue_after : Bool → List EventData → EventData → List EventData
 queue_after held events event = if held && nat_lt (length events) MAX_EVENTS then events ++ event ∷ [] else events
 

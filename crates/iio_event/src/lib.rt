@@ -1,7 +1,7 @@
 //! Threshold events: the thresholds of a device's channels, and a queue of the events that cross them.
 //!
-//! An edge fires where a value is past its threshold and the value before wasn't, or there was none. Events are kept for
-//! one holder at a time, 16 at most. After the kernel's events (linux/iio/events.h).
+//! An edge fires if a value is past its threshold and the value before wasn't, or there was none. At most 16 events are kept,
+//! for one holder at a time. After the kernel's events (linux/iio/events.h).
 #![tactic(auto)]
 
 mod event;

@@ -15,7 +15,7 @@ use std::marker::Model;
 /// The most events that wait (kernel: the event queue's kfifo).
 pub const MAX_EVENTS: usize = 16;
 
-/// There is a holder of the events already.
+/// The events have a holder already.
 #[derive(Clone, Copy, Debug, PartialEq, Eq)]
 pub struct Held;
 
@@ -43,7 +43,7 @@ impl Model for Monitor {
 }
 
 impl Monitor {
-    /// A monitor of that shape's data channels: nothing is watched, all thresholds are 0, nobody holds the events. All
+    /// Makes a monitor of that shape's data channels: nothing is watched, all thresholds are 0, nobody holds the events. All
     /// memory that it ever takes is taken here.
     pub fn new(alloc: Global, shape: &Shape) -> Result<Monitor, Mem>
         ensures { IfOk result (λ m. m ≡ new_monitor shape.now) }
@@ -68,8 +68,8 @@ impl Monitor {
         self.put(c, channel.with_watch(edge, watch));
     }
 
-    /// Enables an edge of channel `c`, or disables it. An edge that gets enabled forgets the value that was sensed before;
-    /// enabling one that is enabled changes nothing.
+    /// Enables or disables an edge of channel `c`. An edge that gets enabled forgets the value that was sensed before; enabling
+    /// one that is enabled changes nothing.
     pub fn set_on(&mut self, c: u32, edge: Edge, on: bool)
         requires { c < length self.old.channels }
         ensures { self.new ≡ switch_edge c edge on self.old }
@@ -97,8 +97,8 @@ impl Monitor {
         self.channel(c).watch(edge).enabled
     }
 
-    /// Takes a value of channel `c` at the moment `t`, and says how many events fired: 0 to 2, the rising one before the
-    /// falling one. They are kept while there is a holder; one that finds 16 waiting is dropped.
+    /// Takes a value of channel `c` at the moment `t`, and returns how many events fired: 0 to 2, the rising one before the
+    /// falling one. They are kept while there is a holder; an event that finds 16 waiting is dropped.
     pub fn sense(&mut self, c: u32, value: i64, t: i64) -> u32
         requires { c < length self.old.channels }
         ensures count { result ≡ length (fired_events value t (channel_at c self.old)) }
@@ -120,8 +120,8 @@ impl Monitor {
         u32::from(rises) + u32::from(falls)
     }
 
-    /// Makes `who` the holder of the events, with none waiting. `Held` comes exactly where there is a holder, and then
-    /// nothing changes.
+    /// Makes `who` the holder of the events, with none waiting. Returns `Held` exactly if there is a holder, and then nothing
+    /// changes.
     pub fn open(&mut self, who: u32) -> Result<(), Held>
         ensures answer { result ≡ open_answer self.old }
         ensures state { self.new ≡ after_open who self.old }
@@ -134,8 +134,8 @@ impl Monitor {
         Ok(())
     }
 
-    /// Takes the oldest event out; `None` where none waits. `NotHolder` comes exactly where `who` isn't the holder, and
-    /// then nothing changes.
+    /// Takes the oldest event out, and returns it, or `None` if none waits. Returns `NotHolder` exactly if `who` isn't the
+    /// holder, and then nothing changes.
     pub fn read(&mut self, who: u32) -> Result<Option<EventData>, NotHolder>
         ensures answer { result ≡ read_answer nat_eq who self.old }
         ensures state { self.new ≡ after_read nat_eq who self.old }
@@ -146,8 +146,7 @@ impl Monitor {
         Ok(self.events.pop_front())
     }
 
-    /// Ends the holding and empties the queue. `NotHolder` comes exactly where `who` isn't the holder, and then nothing
-    /// changes.
+    /// Ends the holding and empties the queue. Returns `NotHolder` exactly if `who` isn't the holder, and then nothing changes.
     pub fn close(&mut self, who: u32) -> Result<(), NotHolder>
         ensures answer { result ≡ close_answer nat_eq who self.old }
         ensures state { self.new ≡ after_close nat_eq who self.old }
@@ -180,7 +179,7 @@ impl Monitor {
         self.channels[c as usize] = channel;
     }
 
-    // Keeps the event of an edge, where there is a holder and room.
+    // Keeps the event of an edge, if there is a holder and room.
     #[tactic(auto, using(crate::proofs::QueueLemmas::keeps_all))]
     fn fire(&mut self, kind: Kind, suffix: Suffix, edge: Edge, t: i64)
         ensures { self.new ≡ record self.old

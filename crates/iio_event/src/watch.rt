@@ -54,7 +54,7 @@ impl Watch {
         }
     }
 
-    /// Takes a value, and says whether it crosses the threshold.
+    /// Takes a value, and returns whether it crosses the threshold.
     #[inline]
     pub(crate) fn sense(&mut self, edge: Edge, value: i64) -> bool
         ensures crosses { result ≡ crosses edge self.old value }
@@ -84,7 +84,7 @@ impl Watch {
 }
 
 impl Watched {
-    /// A channel at which nothing is watched, with the thresholds 0.
+    /// A channel at which nothing is watched, with both thresholds 0.
     pub(crate) fn idle(channel: &Channel) -> Watched
         ensures { result ≡ idle_channel channel.now }
     {

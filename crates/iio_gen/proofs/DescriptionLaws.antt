@@ -1,4 +1,4 @@
--- The description that the front of an input says, line by line.
+-- The description at the front of an input, line by line.
 use Rattle.std.proofs.Common.{◌≡◌, ℕ, zero, suc, ◌+◌, ◌*◌, ◌-◌, ◌^◌, ◌<◌, ◌≤◌, ℤ, pos, ◌/◌, ◌%◌, true, false, ◌==◌, nat_lt, int_lt, List, [], ◌∷◌, ◌++◌, length, map, codes, Option, Some, None, Ok, refl, sym, ap, ◌∙◌, arith, subst, add-zero, append_assoc, append-nil, slice_get, eq-eqb}
 use Rattle.std.specs.List.{list_all, list_any, sum_by}
 use Rattle.std.specs.Fmt.{decimal}
@@ -37,7 +37,7 @@ use Rattle.iio_gen.specs.Input.{channel_line, description, row_line, several, ty
 use Rattle.iio_gen.proofs.Several.{by_each}
 use Rattle.iio_gen.proofs.Texts.{IsLine, IsWord, and_true, both_parts, decimal_word, line_words, lines_then, word_last, word_printable, word_then, words_by}
 
--- ---- a line more
+-- ---- one more line
 
 -- the lines of a text are read as a description so far
 pub record Reads (drivers : ℕ) (text : List ℕ) (desc : PartialDesc) : Type 0 where
@@ -72,7 +72,7 @@ reads_more drivers text line desc desc' r printable ends says = record {
 abbrev pub t0 : TriggerDesc
 t0 = record { name = codes "t0"; places = 2 }
 
--- channels of these types, from that number on
+-- channels of these types, numbered from `from` on
 abbrev pub channels_from : ℕ → List Format → List Channel
 channels_from i [] = []
 channels_from i (f ∷ fs) = record { kind = Voltage; suffix = Number i; direction = Input; ty = f } ∷ channels_from (suc i) fs
@@ -134,7 +134,7 @@ id_says (suc (suc (suc (suc (suc (suc zero)))))) h = refl
 id_says (suc (suc (suc (suc (suc (suc (suc zero))))))) h = refl
 id_says (suc (suc (suc (suc (suc (suc (suc (suc k)))))))) h = absurd (omega arith)
 
--- none of the channels has a number after theirs
+-- none of the channels has a later number
 no_id : (from i : ℕ) (formats : List Format) → from + length formats ≤ i
     → list_any (λ (c : Channel). same_id (id_at c) (Voltage, Number i)) (channels_from from formats) ≡ false
 no_id from i [] h = refl
@@ -163,7 +163,7 @@ width-channels from (f ∷ fs) =
     sum_by_from (λ (c : Channel). c.ty.repeat) (0 + f.repeat) (channels_from (suc from) fs) ∙ ap (λ n. 0 + f.repeat + n) (width-channels (suc from) fs)
     ∙ sym (sum_by_from (λ (g : Format). g.repeat) (0 + f.repeat) fs)
 
--- a channel's line
+-- what a channel's line means
 channel_said : (drivers i : ℕ) (formats : List Format) (line id type : List ℕ) (f : Format)
     → words_of_line line ≡ Ok (codes "channel" ∷ id ∷ type ∷ []) → id_of id ≡ Some (Voltage, Number i)
     → has_id (device formats None [] []) (Voltage, Number i) ≡ false
@@ -304,7 +304,7 @@ row_said : (drivers : ℕ) (formats : List Format) (moments values : List ℤ) (
     ≡ Ok (so_far drivers (device formats (Some Little) (moments ++ m ∷ []) (values ++ xs)))
 row_said drivers formats moments values line t vs m xs words some width is risen ints few = rw (words, some, width, is, risen, ints, few) refl
 
--- that many rows were read, each 1,000 moments after the one before
+-- that many rows were read, each 1,000 moments after the row before it
 pub record HasRows (drivers i : ℕ) (formats : List Format) (text : List ℕ) : Type 0 where
   pub moments : List ℤ
   pub values : List ℤ
@@ -401,7 +401,7 @@ rows_none drivers formats text eight short reads = record {
 
 -- ---- the whole description
 
--- a text is a description with the trigger, whatever stands after it
+-- a text is a description with the trigger, whatever comes after it
 pub record Opens (drivers : ℕ) (text : List ℕ) : Type 0 where
   pub desc : Description
   pub first : ℕ
@@ -409,7 +409,7 @@ pub record Opens (drivers : ℕ) (text : List ℕ) : Type 0 where
   pub head : (more : List ℕ) → head_from false (new_reader drivers) 1 (lines_of (text ++ more)) ≡ Described desc first (lines_of more)
   pub short : length text ≤ 5000
 
--- the line that ends it
+-- the line that ends the description
 ended : (drivers lines number : ℕ) (d : PartialDevice) (rest : List (List ℕ)) → d.direction ≡ Input → has_channels d ≡ true
     → head_from false (Ok (record { lines = lines; desc = so_far drivers d })) number (codes "%%" ∷ rest)
     ≡ Described (record { context = []; triggers = t0 ∷ []; devices = device_of d ∷ []; outputs = []; averages = [] }) (number + 1) rest

@@ -37,7 +37,7 @@ mask_word bits = record { some = omega arith; bytes = digits_word (to_be_bytes w
 pub mask_size : (bits : ℕ) → length (mask_text 9 bits) ≡ 8
 mask_size bits = refl
 
--- ---- commands need no escape but of their LF
+-- ---- commands need no escapes except for their LF
 
 abbrev pub IsPlain : List ℕ → Type 0
 IsPlain text = list_all is_plain text ≡ true
@@ -66,7 +66,7 @@ escaped_line (b ∷ bs) plain =
     let parts = and_true (is_plain b) (list_all is_plain bs) plain in
     ap (λ t. t ++ escaped (bs ++ 10 ∷ [])) (plain_byte b parts.0) ∙ ap (λ t. b ∷ t) (escaped_line bs parts.1)
 
--- the line of a step, in the parts that are written
+-- the line of a step, in the parts in which it is written
 pub feed_parts : (c : ℕ) (command : List ℕ) → IsPlain command → feed_line c command ≡ (codes "c" ++ (decimal c ++ codes " \"")) ++ (command ++ codes "\\n\"\n")
 feed_parts c command plain =
     ap (λ t. (codes "c" ++ (decimal c ++ (32 ∷ 34 ∷ (t ++ 34 ∷ [])))) ++ 10 ∷ []) (escaped_line command plain) ∙ simp append_assoc
@@ -81,7 +81,7 @@ feed_appended c command out named fed whole plain a b d =
     ∙ append_assoc out (codes "c" ++ (decimal c ++ codes " \"")) (command ++ codes "\\n\"\n")
     ∙ ap (λ t. out ++ t) (sym (feed_parts c command plain))
 
--- the same of a READBUF and of an OPEN, whose numbers are written one after another
+-- the same for a READBUF and for an OPEN, whose numbers are written one after another
 pub read_appended : (c bytes : ℕ) (out named headed fed whole : List ℕ) → bytes < 2 ^ 64 → named ≡ out ++ (codes "c" ++ (decimal c ++ codes " \""))
     → headed ≡ named ++ codes "READBUF dev0 " → fed ≡ headed ++ decimal bytes → whole ≡ fed ++ codes "\\n\"\n"
     → whole ≡ out ++ feed_line c (codes "READBUF dev0 " ++ decimal bytes)

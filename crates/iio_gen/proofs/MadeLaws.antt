@@ -17,7 +17,7 @@ use Rattle.iio_gen.proofs.StepLaws.{Plays, behind, plays_none, step_more}
 not_overlong : (input : List ℕ) → length input ≤ input_limit → is_overlong input ≡ false
 not_overlong input h = le-ltb input_limit (length input) h
 
--- such an input is looked at whole
+-- such an input is looked at in full
 head_whole : (drivers : ℕ) (input : List ℕ) → length input ≤ input_limit → head_of drivers input ≡ head_from false (new_reader drivers) 1 (lines_of input)
 head_whole drivers input h = rw (not_overlong input h) refl
 

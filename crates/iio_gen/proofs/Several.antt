@@ -3,7 +3,7 @@ use Rattle.std.proofs.Common.{ℕ, zero, suc, ◌+◌, ◌<◌, ◌≤◌, List,
 use Rattle.iio_gen.specs.Generator.{Drawn}
 use Rattle.iio_gen.specs.Input.{Appends, several}
 
--- what holds of a text, and goes on with what is made for each number, holds of the text with all of them
+-- what holds of a text, and stays true when the text for each number is appended, holds of the text with all of them
 pub by_each : (make : ℕ → Drawn (List ℕ)) (P : ℕ → List ℕ → Type 0) (limit : ℕ) (front : List ℕ) → P 0 front
     → ((i : ℕ) (text : List ℕ) (x : ℕ) → i < limit → P i text → P (suc i) (text ++ (make i x).0))
     → (n x : ℕ) → n ≤ limit → P n (front ++ (several make n x).0)

@@ -1,4 +1,4 @@
--- The steps that the lines of an input say.
+-- The steps of the lines of an input.
 use Rattle.std.proofs.Common.{◌≡◌, ℕ, zero, suc, ◌+◌, ◌*◌, ◌/◌, ◌%◌, ◌^◌, ◌<◌, ◌≤◌, ◌==◌, ℤ, pos, Bool, true, false, ◌||◌, cond, nat_le, nat_lt, List, [], ◌∷◌, ◌++◌, length, get_or, codes, Some, None, Ok, refl, sym, ap, ◌∙◌, arith, subst, Fits, w8, append_assoc}
 use Rattle.std.specs.Fmt.{decimal}
 use Rattle.std.specs.List.{list_all}
@@ -37,22 +37,22 @@ c2 = codes "c2"
 abbrev c3 : List ℕ
 c3 = codes "c3"
 
--- 1 where a name isn't among those
+-- 1 if a name isn't among those, otherwise 0
 abbrev lacks : List (List ℕ) → List ℕ → ℕ
 lacks names name = cond (is_known names name) 0 1
 
--- at most four, with room left for those of these connections that are lacking
+-- at most four names, with room left for those of these connections that are missing
 pub record IsFew (names : List (List ℕ)) : Type 0 where
   pub room : length names + (lacks names c0 + lacks names c1 + lacks names c2 + lacks names c3) ≤ 4
 
--- a step that keeps to them
+-- a step that keeps the names so few
 abbrev pub Keeps : Step → Type 0
 Keeps step = (names : List (List ℕ)) → IsFew names → (keeps_names names (Some step) ≡ true) × IsFew (names_after names (Some step))
 
 fire_keeps : (m : ℤ) → Keeps (Fire 0 m)
 fire_keeps m names few = (refl, few)
 
--- what is asked of a feed, by whether its name is known
+-- what a feed needs, by whether its name is known
 abbrev Kept : List (List ℕ) → List ℕ → Bool → Type 0
 Kept names name known = ((known || nat_lt (length names) 64) ≡ true) × IsFew (cond known names (name ∷ names))
 
@@ -89,13 +89,13 @@ feed_keeps (suc (suc zero)) bytes h names few = keeps_by names c2 (is_known name
 feed_keeps (suc (suc (suc zero))) bytes h names few = keeps_by names c3 (is_known names c3) refl (keeps_c3 names few (is_known names c3) refl)
 feed_keeps (suc (suc (suc (suc c)))) bytes h names few = absurd (omega arith)
 
--- ---- a line more
+-- ---- one more line
 
 -- these steps before those of a script
 abbrev pub behind : List Step → Script → Script
 behind steps script = record { steps = steps ++ script.steps; ending = script.ending }
 
--- the lines of a text are that many steps, whatever stands after them
+-- the lines of a text are that many steps, whatever comes after them
 pub record Plays (desc : Description) (first count : ℕ) (text : List ℕ) : Type 0 where
   pub names : List (List ℕ)
   pub few : IsFew names
@@ -116,7 +116,7 @@ turn : (desc : Description) (names : List (List ℕ)) (number : ℕ) (line : Lis
     ≡ first_step (Some step) (script_from desc Finished (names_after names (Some step)) (number + 1) rest)
 turn desc names number line rest step says keeps = rw (says, keeps, script_from) refl
 
--- what a line says
+-- the step of a line
 pub record SaysStep (desc : Description) (line : List ℕ) : Type 0 where
   pub step : Step
   pub printable : list_all is_printable line ≡ true

@@ -1,4 +1,4 @@
--- What `tally` says of the input of a number.
+-- What `tally` returns for the input of a number.
 use Rattle.std.proofs.Common.{◌≡◌, ℕ, ◌≤◌, List, [], length, Ok, Err, ap, ◌∙◌, subst, sym}
 use Rattle.iio_text.specs.declared.refusals.Why.{Why}
 use Rattle.iio_history.specs.Input.{input_limit}

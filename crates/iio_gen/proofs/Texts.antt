@@ -1,4 +1,4 @@
--- Words and lines of texts that are put together of parts.
+-- Words and lines of texts that are put together from parts.
 use Rattle.std.proofs.Common.{◌≡◌, ℕ, ◌^◌, ◌<◌, ◌≤◌, Bool, true, false, not, ◌&&◌, ◌||◌, leb, List, [], ◌∷◌, ◌++◌, length, Ok, refl, sym, ap, ◌∙◌, arith, append-nil}
 use Rattle.std.specs.List.{list_all}
 use Rattle.std.specs.Char.{is_ascii_digit}
@@ -29,7 +29,7 @@ weaker p q implies (b ∷ bs) h =
     let parts = and_true (p b) (list_all p bs) h in
     rw (implies b parts.0, weaker p q implies bs parts.1) refl
 
--- a byte that stands in a word, and needs no escape
+-- a byte that can be in a word, and needs no escape
 abbrev pub is_word_byte : ℕ → Bool
 is_word_byte b = leb 33 b && is_plain b
 
@@ -60,18 +60,18 @@ pub record IsWord (word : List ℕ) : Type 0 where
   pub some : 0 < length word
   pub bytes : list_all is_word_byte word ≡ true
 
--- the digits of a number are one
+-- the digits of a number are a word
 pub decimal_word : (n : ℕ) → n < 2 ^ 64 → IsWord (decimal n)
 decimal_word n h = record {
   some = decimal_nonempty n h;
   bytes = weaker is_ascii_digit is_word_byte digit_word (decimal n) (are_digits (decimal n) (decimal_is_IsNumeral n h).0.1);
 }
 
--- a byte that is no space
+-- a byte that isn't a space
 word_byte : (b : ℕ) (rest : List ℕ) → is_space b ≡ false → words_of is_space (b ∷ rest) ≡ onto_first b (begins_word is_space rest) (words_of is_space rest)
 word_byte b rest e = rw e refl
 
--- a word, and what begins no word
+-- a word, and a text that doesn't begin with a byte of a word
 pub words_by : (word rest : List ℕ) → 0 < length word → list_all is_word_byte word ≡ true → begins_word is_space rest ≡ false
     → words_of is_space (word ++ rest) ≡ word ∷ words_of is_space rest
 words_by [] rest some bytes ends = absurd (omega arith)
@@ -104,7 +104,7 @@ pub record IsLine (text : List ℕ) (words : List (List ℕ)) : Type 0 where
   pub short : length text ≤ 63
   pub said : words_of is_space text ≡ words
 
--- the words of a line that is no comment
+-- the words of a line that isn't a comment
 pub line_words : (text : List ℕ) (words : List (List ℕ)) → IsLine text words → is_comment text ≡ false → words_of_line text ≡ Ok words
 line_words text words is meant =
     let short = is.short in

@@ -7,7 +7,7 @@ use Rattle.iio_gen.specs.declared.generator.TheConstants.{MULTIPLIER, INCREMENT}
 unfoldable pub next_state : ℕ → ℕ
 next_state x = (x * MULTIPLIER + INCREMENT) % 2 ^ 64
 
--- what draws make, and the state after them, by the state before them
+-- the result of draws and the state after them, by the state before them
 abbrev pub Drawn : Type 0 → Type 0
 Drawn A = ℕ → A × ℕ
 
@@ -15,11 +15,11 @@ Drawn A = ℕ → A × ℕ
 abbrev pub draw : ℕ → Drawn ℕ
 draw k x = (next_state x / 2 ^ 33 % k, next_state x)
 
--- what is given without a draw
+-- a result that needs no draw
 abbrev pub given : {A : Type 0} → A → Drawn A
 given a x = (a, x)
 
 infixl 10 ◌>>=◌
--- what follows is drawn from the state that the first draws leave
+-- `next` draws from the state after the first draws
 abbrev pub ◌>>=◌ : {A B : Type 0} → Drawn A → (A → Drawn B) → Drawn B
 (first >>= next) x = next (first x).0 (first x).1

@@ -11,7 +11,7 @@ use Rattle.iio_gen.specs.declared.feeds.TheConstants.{BYTES, CONNECTIONS, MASKS,
 use Rattle.iio_gen.specs.declared.steps.TheConstants.{KINDS, STEPS, STEP_TIME}
 use Rattle.iio_gen.specs.Generator.{Drawn, draw, given, ◌>>=◌}
 
--- what is made for each number below n, one after another
+-- the texts made for the numbers below n, one after another
 unfoldable pub several : (ℕ → Drawn (List ℕ)) → ℕ → Drawn (List ℕ)
 several make zero = given []
 several make (suc n) = do
@@ -58,7 +58,7 @@ description = do
 
 -- ---- the steps
 
--- connection cC is fed a line
+-- connection cC is fed this line
 abbrev pub feed_line : ℕ → List ℕ → List ℕ
 feed_line c command = line (codes "c" ++ (decimal c ++ (codes " " ++ quoted (line command))))
 
@@ -85,7 +85,7 @@ read_line = do
   b ← draw BYTES
   given (feed_line c (codes "READBUF dev0 " ++ decimal b))
 
--- one kind is an OPEN, one a CLOSE, four are polls, and the others READBUFs
+-- by its kind d a step is an OPEN, a CLOSE, a poll (four kinds), or a READBUF
 abbrev pub step_of_kind : ℕ → ℕ → Drawn (List ℕ)
 step_of_kind i d =
     if d == 0 then open_line
@@ -110,7 +110,7 @@ input = do
 abbrev pub made : ℕ → List ℕ
 made n = (input n).0
 
--- a text was appended that draws make, and the state is the one after them
+-- the text that draws make was appended, and the state is the one after them
 pub record Appends (text : Drawn (List ℕ)) (state state' : ℕ) (out out' : List ℕ) : Type 0 where
   pub appended : out' ≡ out ++ (text state).0
   pub left : state' ≡ (text state).1

@@ -13,17 +13,17 @@ pub record IsPlayable (drivers steps : ℕ) (input : List ℕ) : Type 0 where
   pub desc : Description
   pub first : ℕ
   pub lines : List (List ℕ)
-  -- no line of the description is refused; after it stand these lines, the first of which has that number
+  -- no line of the description is refused; these are the lines after it, and the first of them has that number
   pub described : head_of drivers input ≡ Described desc first lines
-  -- none of them is refused
+  -- none of these lines is refused
   pub finished : (script_from desc Finished [] first lines).ending ≡ Finished
   pub count : length (script_from desc Finished [] first lines).steps ≡ steps
-  -- and the input is looked at whole
+  -- the whole input is looked at
   pub short : length input ≤ input_limit
 
 abbrev pub MadeIsPlayable : Type 0
 MadeIsPlayable = (n drivers : ℕ) → IsPlayable drivers STEPS (made n)
 
--- in the words of `play`: whatever drivers are handed in, the outcome has no refusal, and isn't too long
+-- what `play` does: whatever drivers are handed in, the outcome is neither a refusal nor too long an input
 abbrev pub MadeFinishes : Type 0
 MadeFinishes = (n : ℕ) (drivers : List Driver) → (outcome_of drivers (made n)).ending ≡ Finished

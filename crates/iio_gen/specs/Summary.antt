@@ -15,14 +15,14 @@ use Rattle.iio_gen.specs.Input.{made}
 abbrev pub count_line : List ℕ → ℕ → List ℕ
 count_line word count = line (word ++ (codes " " ++ decimal count))
 
--- the four lines of what was counted
+-- the four lines of a count
 abbrev pub tally_text : Tally → List ℕ
 tally_text tally =
     count_line (codes "captures") tally.captures
     ++ (count_line (codes "scans") tally.scans
     ++ (count_line (codes "overruns") tally.overruns ++ count_line (codes "bytes") tally.bytes))
 
--- what the input of a number counts, played without drivers
+-- the counts of a number's input, played without drivers
 abbrev pub summary_text : ℕ → List ℕ
 summary_text n = tally_text (tally_of (summary_of_input [] (made n)))
 

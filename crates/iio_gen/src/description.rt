@@ -11,13 +11,13 @@ const CHANNELS: u64 = 8;
 
 const ROWS: u64 = 64;
 
-// How many types there are.
+// The number of types that are drawn from.
 const TYPES: u64 = 6;
 
 // A value stays below this.
 const VALUES: u64 = 4096;
 
-// How many moments lie between two rows.
+// The time between two rows, in units of a moment.
 const ROW_TIME: u64 = 1000;
 
 fn type_text(kind: u64) -> &'static [u8]

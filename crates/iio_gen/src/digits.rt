@@ -8,10 +8,10 @@ use iio_base::Mem;
 use iio_mask::Mask;
 use itoa::Buffer;
 
-// The device's channels, with the timestamp.
+// The number of the device's channels, with the timestamp.
 const MASK_BITS: u32 = 9;
 
-// How many digits the mask of up to 32 channels has.
+// The number of digits in the mask of up to 32 channels.
 const MASK_DIGITS: usize = 8;
 
 pub(crate) fn push_number(out: &mut Vec<u8>, number: u64) -> Result<(), Mem>

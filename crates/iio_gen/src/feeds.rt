@@ -10,13 +10,13 @@ use iio_base::Mem;
 
 const CONNECTIONS: u64 = 4;
 
-// The most samples that an OPEN asks for.
+// The maximum number of samples in an OPEN.
 const SAMPLES: u64 = 8;
 
-// How many masks there are of nine channels, the empty one left out.
+// The number of masks of nine channels, without the empty one.
 const MASKS: u64 = 511;
 
-// A READBUF asks for fewer bytes.
+// The number of bytes in a READBUF stays below this.
 const BYTES: u64 = 400;
 
 // `cC "`
@@ -29,7 +29,7 @@ fn begin_feed(out: &mut Vec<u8>, connection: u64) -> Result<(), Mem>
     Ok(())
 }
 
-// The end of the line that is fed, and of the step.
+// Ends the line that is fed, and the step.
 fn end_feed(out: &mut Vec<u8>) -> Result<(), Mem>
     ensures { OnOk result (out.new.items ≡ out.old.items ++ codes "\\n\"\n") }
 {

@@ -1,4 +1,4 @@
-//! Numbers that look random, and are the same for the same first state.
+//! Numbers that look random; the same first state gives the same numbers.
 
 ghost use Rattle.std.specs.Prelude.{◌≡◌, ◌<◌};
 ghost use Rattle.iio_gen.specs.Generator.{draw};
@@ -21,7 +21,8 @@ impl Generator {
         Generator { state }
     }
 
-    /// The next number, below a limit, of the upper bits of the state: the lower ones come back too soon.
+    /// Returns the next number, which is below `limit`. It is taken from
+    /// the upper bits of the state, since the lower ones repeat too soon.
     pub(crate) fn draw(&mut self, limit: u64) -> u64
         requires { 0 < limit }
         ensures number { result ≡ (draw limit self.old.state).0 }

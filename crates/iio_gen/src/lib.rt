@@ -1,4 +1,4 @@
-//! A large input from a number: a description, and twenty thousand steps of a script; and what it counts.
+//! Makes a large input from a number: a description, and twenty thousand steps of a script; and counts what happens in it.
 #![tactic(auto)]
 
 ghost use Rattle.std.specs.Prelude.{◌≡◌, IfOk};
@@ -19,12 +19,12 @@ pub use iio_base::Mem;
 use std::alloc::Global;
 pub use summary::gen_;
 
-// What most inputs need, in bytes.
+// Room for most inputs, in bytes.
 const ROOM: usize = 524_288;
 
-/// The input of a number: the description of one device with eight channels, a timestamp and 64 rows, and 20,000 steps, in
-/// which four connections open and close the device and read from it, between polls of its trigger. A number makes the same
-/// input each time, and `play` refuses no line of any.
+/// Returns the input of the number `n`: the description of one device with eight channels, a timestamp and 64 rows, and
+/// 20,000 steps, in which four connections open and close the device and read from it, between polls of its trigger. A number
+/// always makes the same input, and `play` refuses no line of any.
 pub fn make(alloc: Global, n: u64) -> Result<Vec<u8>, Mem>
     ensures { IfOk result (λ text. text.items ≡ made n) }
 {
@@ -35,7 +35,7 @@ pub fn make(alloc: Global, n: u64) -> Result<Vec<u8>, Mem>
     Ok(text)
 }
 
-/// No input of this crate has a line that `play` refuses, and none is too long. It does nothing.
+/// The law that `play` refuses no line of an input of this crate, and that no such input is too long. The call does nothing.
 pub fn law()
     ensures playable { MadeIsPlayable }
     ensures finishes { MadeFinishes }

@@ -10,10 +10,10 @@ use iio_base::Mem;
 
 const STEPS: u64 = 20_000;
 
-// A step's kind is drawn below this: one kind is an OPEN, one a CLOSE, four are polls, and four READBUFs.
+// The number of kinds that a step is drawn from: one is an OPEN, one a CLOSE, four are polls, and four READBUFs.
 const KINDS: u64 = 10;
 
-// How many moments lie between two steps.
+// The time between two steps, in units of a moment.
 const STEP_TIME: u64 = 5;
 
 // `fire t0 T`

@@ -27,7 +27,7 @@ fn push_count(out: &mut Vec<u8>, word: &[u8], count: u64) -> Result<(), Mem>
     Ok(())
 }
 
-// The four lines of what was counted.
+// The four lines of a count.
 fn push_tally(out: &mut Vec<u8>, counted: &Tally) -> Result<(), Mem>
     ensures { OnOk result (out.new.items ≡ out.old.items ++ tally_text counted.now) }
 {
@@ -37,7 +37,7 @@ fn push_tally(out: &mut Vec<u8>, counted: &Tally) -> Result<(), Mem>
     push_count(out, b"bytes", counted.bytes)
 }
 
-// What the input of a number counts.
+// Returns the counts of a number's input.
 fn count(alloc: Global, n: u64) -> Result<Tally, Mem>
     ensures { IfOk result (λ counted. counted ≡ tally_of (summary_of_input [] (made n))) }
 {
@@ -49,7 +49,7 @@ fn count(alloc: Global, n: u64) -> Result<Tally, Mem>
     }
 }
 
-// The summary of a number's input.
+// Returns the summary of a number's input.
 fn summary(alloc: Global, n: u64) -> Result<Vec<u8>, Mem>
     ensures { IfOk result (λ text. text.items ≡ summary_text n) }
 {
@@ -59,9 +59,9 @@ fn summary(alloc: Global, n: u64) -> Result<Vec<u8>, Mem>
     Ok(text)
 }
 
-/// Makes the input of a number, plays it without drivers, and writes four lines: its captures, the scans that READBUFs gave,
-/// the scans that were lost, and the sum of the bytes of the scans that were given. Where a write fails or memory runs out, a
-/// front part of the lines was written.
+/// Makes the input of the number `n`, plays it without drivers, and writes four lines: the number of its captures, of the
+/// scans that READBUFs gave, of the scans that were lost, and of all bytes of the scans that were given. If a write fails or
+/// memory runs out, a front part of the lines was written.
 pub fn gen_<K: Sink>(alloc: Global, n: u64, output: &mut K) -> Status
     ensures lines { IfSome (K.written output.old) (λ written. Writes (summarized n) written result (K.written output.new)) }
     ensures status { EndsGen result }

@@ -41,7 +41,7 @@ tests_same true b f g = sym (f refl)
 tests_same false true f g = g refl
 tests_same false false f g = refl
 
--- the place of a name that is there is no other name's
+-- a name that is there has a place of its own
 pub place_tells : (ns : List (List ℕ)) (a b : List ℕ) → is_in ns b ≡ true → place_in ns a ≡ place_in ns b → a ≡ b
 place_tells [] a b there is = cc
 place_tells (n ∷ ns) a b there is = by (bytes_eq n a) (bytes_eq n b) refl refl there is (place_tells ns a b)
@@ -59,7 +59,7 @@ place_same ns a b there =
     (λ h. ap (λ (n : List ℕ). bytes_eq a n) (sym (place_tells ns a b there (same_number (place_in ns a) (place_in ns b) h))) ∙ name_itself a)
     (λ h. ap (λ (n : List ℕ). place_in ns a == place_in ns n) (sym (name_same a b h)) ∙ itself (place_in ns a))
 
--- the place of a name that is there stays where others come after it
+-- a name that is there keeps its place if others come after it
 pub place_stays : (ns more : List (List ℕ)) (a : List ℕ) → is_in ns a ≡ true → place_in (ns ++ more) a ≡ place_in ns a
 place_stays [] more a there = cc
 place_stays (n ∷ ns) more a there = by (bytes_eq n a) there (place_stays ns more a)
@@ -79,7 +79,7 @@ still_in (n ∷ ns) more a there = by (bytes_eq n a) there (still_in ns more a)
 
 -- ---- refusals
 
--- the first of two lists
+-- the first refusal of two lists
 abbrev pub first_of_two : Option Errno → Option Errno → Option Errno
 first_of_two None later = later
 first_of_two (Some e) later = Some e

@@ -104,7 +104,7 @@ no_mask : (o : Option ℕ) → not (is_some o) ≡ is_none o
 no_mask None = refl
 no_mask (Some n) = refl
 
--- ---- what a REMASK is
+-- ---- what a REMASK means
 
 abbrev remasking : Result Remasked Errno → Act
 remasking r = accepted (λ x. Remasking x.member x.mask) r
@@ -114,7 +114,7 @@ answered name text x = do
   remask ← remask_answer (device_of x.station) (Conn name) text
   Ok zero_reply
 
--- what a device that is plugged answers
+-- the answer of a plugged device
 abbrev answer_by : Device → List ℕ → Option Member → Result Remasked Errno
 answer_by x text o = ok_or o EBADF >>= remasked x text
 
@@ -146,7 +146,7 @@ module _ (s : Setup) (m : Told) (name : List ℕ) (client : ClientRecord) (devic
         sym (ap (λ (x : Result KnownDevice Errno). replied (x >>= answered name text)) (known_is s m device k st found at)
         ∙ ap (λ (x : Result Remasked Errno). replied (x >>= (λ remask. Ok zero_reply))) is)
 
-    -- one that is refused
+    -- a refused REMASK
     is_refused : (e : Errno) → remask_answer (device_of st) (Conn name) text ≡ Err e
         → IsAct s m name (Said (Ok (Remask device text))) (refused e (machine_of m) client)
     is_refused e is =
@@ -223,7 +223,7 @@ module _ (s : Setup) (m : Told) (name : List ℕ) (client : ClientRecord) (devic
       unfolding queue_of
       waiting = ap (λ (b : MachineStation). scans_in (id_of_seat y) b.members) (bench_at m k st at) ∙ scans_same (Conn name) y st.seats tell is
 
-      -- what the device says
+      -- the device's answer
       refusals_are : first_refusal (bench_refusals (shape_at (front_of s) k) (station_at (machine_of m) k) (id_of_seat y) mask) ≡ first_refusal union_list
       refusals_are =
           ap (λ (b : MachineStation). first_refusal (bench_refusals (shape_at (front_of s) k) b (id_of_seat y) mask)) (bench_at m k st at)
@@ -294,7 +294,7 @@ module _ (s : Setup) (m : Told) (name : List ℕ) (client : ClientRecord) (devic
                 (λ x is_. (keeps_else s m name (Said (Ok (Remask device text))) device k st (Remasking y.member mask) (acts (Ok made) accepted_is) j other x
                 is_).seat))
 
-      -- the answer of the device, as the session takes it
+      -- the answer of the device, as the session uses it
       abbrev taken : ℕ → Result ℕ Errno → Acted
       taken i r =
           let o =

@@ -18,11 +18,11 @@ use Rattle.iio_history.specs.Bench.{Every, NumbersRise, inner_of, numbered}
 use Rattle.iio_history.proofs.WhoLaws.{either, same_is, same_sym}
 use Rattle.iio_core.proofs.PlaceLists.{itself}
 
--- a connection's seat: an inner member has none
+-- a connection's seat; an inner member has none
 abbrev pub IsSeats : Who → Type 0
 IsSeats who = is_none (inner_of who) ≡ true
 
--- of these seats the one of the name is the one of the number, and it is this one
+-- among these seats the one with the name is the one with the number, and it is this one
 abbrev pub TellSame : Who → Seat → List Seat → Type 0
 TellSame who y [] = Unit {0}
 TellSame who y (x ∷ xs) = (same who x.member.who ≡ is_seat_of y.number (numbered x)) × (same who x.member.who ≡ true → x ≡ y) × TellSame who y xs
@@ -33,7 +33,7 @@ above n number h = grind (arith, nat_tests)
 apart_number : (n number : ℕ) → suc n ≤ number → (n == number) ≡ false
 apart_number n number h = grind (arith, nat_tests)
 
--- one of another number is of no seat of this one
+-- a seat with another number isn't this one
 no_seat : (x : Seat) (number : ℕ) → (x.number == number) ≡ false → is_seat_of number (numbered x) ≡ false
 no_seat x number other = ap (λ (b : Bool). is_none (inner_of x.member.who) && b) other ∙ by (is_none (inner_of x.member.who))
   where
@@ -41,7 +41,7 @@ no_seat x number other = ap (λ (b : Bool). is_none (inner_of x.member.who) && b
     by true = refl
     by false = refl
 
--- after the one of the number there is none of its name and none of its number
+-- after the seat with the number there is none with its name and none with its number
 behind : (who : Who) (y : Seat) (low high : ℕ) (xs : List Seat) → y.number < low → is_member who (map member_of_seat xs) ≡ false → NumbersRise low high xs
     → TellSame who y xs
 behind who y low high [] below absent rising = tt
@@ -261,7 +261,7 @@ taken_same shape who bytes y (x ∷ xs) apart tell is =
     (absent_seat who xs (subst (λ (w : Who). is_member w (map member_of_seat xs) ≡ false) (sym (same_is who x.member.who own)) apart.0)))
     (λ h. taken_same shape who bytes y xs apart.1 tell.2 h) is
 
--- the scans that it is given
+-- the scans that a READBUF gives
 given_by : (b : Bool) (x y : Seat) (found : Option Seat) (shape : ShapeRecord) (bytes : ℕ) (rest : List (List ℕ)) → cond b (Some x) found ≡ Some y
     → (found ≡ Some y → rest ≡ take (bytes / scan_size shape y.member.mask) y.queue.scans)
     → cond b (take (bytes / scan_size shape x.member.mask) x.queue.scans) rest ≡ take (bytes / scan_size shape y.member.mask) y.queue.scans
@@ -284,7 +284,7 @@ given_none shape who bytes [] none = refl
 given_none shape who bytes (x ∷ xs) none =
     given_none_by (same who x.member.who) x (seat_of who xs) _ (scans_given shape who bytes xs) none (given_none shape who bytes xs)
 
--- ---- a member more, and the masks of all
+-- ---- a new member, and the masks of all
 
 pub joined_numbered : (xs : List Seat) (y : Seat) → map numbered (xs ++ y ∷ []) ≡ map numbered xs ++ numbered y ∷ []
 joined_numbered [] y = refl
@@ -298,7 +298,7 @@ pub empty_same : (xs : List Seat) → is_empty (map numbered xs) ≡ is_empty (m
 empty_same [] = refl
 empty_same (x ∷ xs) = refl
 
--- what holds of every seat holds of one that is found
+-- what holds of every seat holds of a seat that is found
 pub found_sound : (who : Who) (P : Seat → Type 0) (xs : List Seat) (y : Seat) → Every P xs → seat_of who xs ≡ Some y → P y
 found_sound who P [] y all is = cc
 found_sound who P (x ∷ xs) y all is = by (same who x.member.who) is (found_sound who P xs y all.1)

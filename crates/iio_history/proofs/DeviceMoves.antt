@@ -1,4 +1,4 @@
--- What isn't a connection's, at a device: by its own view, and by the history.
+-- What isn't a connection's call, at a device: by its own view, and by the history.
 use Rattle.std.proofs.Common.{◌≡◌, ℕ, ◌-◌, ◌^◌, Bool, true, false, List, Option, Some, slice_get, option_map, cond, ap, ◌∙◌, arith}
 use Rattle.std.proofs.lemmas.Bool.Decides.{nat_tests}
 use Rattle.std.specs.Prelude.{◌==◌, ℤ}

@@ -1,4 +1,4 @@
--- What an act at a device makes of its members: what the history tells of them after it is what the machine makes of them.
+-- What an act at a device makes of its members is the same by the history and by the machine.
 use Rattle.std.proofs.Common.{◌≡◌, ℕ, ◌/◌, Bool, true, false, List, [], ◌∷◌, ◌++◌, map, length, cond, refl, sym, ap, ◌∙◌}
 use Rattle.iio_layout.specs.Shape.{ShapeRecord}
 use Rattle.iio_layout.specs.Layout.{scan_size}
@@ -16,8 +16,8 @@ use Rattle.iio_history.specs.Told.{Seat, member_of_seat}
 use Rattle.iio_history.specs.Machine.{emptied, offered_seat, read_seat, wrote_seat, gave_seat, remasked_seat, without_seats, seats_after}
 use Rattle.iio_history.proofs.WhoLaws.{same_self, either}
 
--- what the history tells of each membership of a device: its log, by the size of its scans, its number, and how many scans
--- were discarded
+-- what the history says of each membership of a device: its log, by
+-- the size of its scans, its number, and the number of discarded scans
 pub record Book : Type 0 where
   pub log : Who → ℕ → List Logged
   pub number : Who → ℕ
@@ -26,7 +26,7 @@ pub record Book : Type 0 where
 abbrev pub seat_with : ShapeRecord → List Logged → ℕ → ℕ → Member → Seat
 seat_with shape log number discarded m = record { member = m; number = number; queue = private_queue shape m log; discarded = discarded }
 
--- a member with what the book tells of it
+-- a member with what the book says of it
 abbrev pub seat_by : ShapeRecord → Book → Member → Seat
 seat_by shape book m = seat_with shape (book.log m.who (scan_size shape m.mask)) (book.number m.who) (book.discarded m.who) m
 
@@ -43,7 +43,7 @@ abbrev pub AreIt : Member → List Member → Type 0
 AreIt m [] = Unit {0}
 AreIt m (x ∷ xs) = (same m.who x.who ≡ true → x ≡ m) × AreIt m xs
 
--- a member that joins wasn't one before; one whose mask changes is the one of its name, and that many scans wait for it
+-- a new member wasn't one before; a member whose mask changes is the one with its name, and that many scans wait for it
 abbrev pub IsSound : ShapeRecord → Book → ℕ → Act → List Member → Type 0
 IsSound shape book waiting (Joining m) ms = is_member m.who ms ≡ false
 IsSound shape book waiting (Remasking m mask) ms = AreIt m ms × (waiting ≡ length (seat_by shape book m).queue.scans)
@@ -160,7 +160,7 @@ remasked shape joinings waiting book n mask (m ∷ ms) it wait =
     (remasked_one shape joinings waiting book n mask m it.0 wait)
     ∙ ap (λ (xs : List Seat). remasked_seat n.who mask (seat_by shape book m) ∷ xs) (remasked shape joinings waiting book n mask ms it.1 wait)
 
--- the one that joins, and those before it, which keep what is told of them
+-- the member that joins, and those before it, of which the book says the same as before
 abbrev joined_seat : ShapeRecord → ℕ → ℕ → Book → Member → Bool → Member → Seat
 joined_seat shape joinings waiting book n b m =
     seat_with shape (cond b [] (book.log m.who (scan_size shape m.mask))) (cond b joinings (book.number m.who)) (cond b 0 (book.discarded m.who)) m

@@ -20,11 +20,11 @@ got_elsewhere zero (suc j) f (x ∷ xs) other = refl
 got_elsewhere (suc k) zero f (x ∷ xs) other = refl
 got_elsewhere (suc k) (suc j) f (x ∷ xs) other = got_elsewhere k j f xs (λ same. other (ap suc same))
 
--- the entries of what stands at a place
+-- the entries at a place
 abbrev entries_by : Option Trigger → List Handed
 entries_by o = (unwrap_or o first_trigger).entries
 
--- a poll is accepted exactly where nothing is outstanding
+-- a poll is accepted exactly if nothing is outstanding
 made_is : (made es : List Handed) → poll_made made es ≡ cond (is_empty es) made es
 made_is made [] = refl
 made_is made (e ∷ es) = refl

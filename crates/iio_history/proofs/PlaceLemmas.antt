@@ -13,7 +13,7 @@ each_at {A = A} P k (x ∷ xs) all =
     let head : P k x = subst (λ n. P n x) (omega arith) (all 0 x refl) in
     (head, each_at P (suc k) xs (λ (j : ℕ) (y : A) (is : slice_get xs j ≡ Some y). subst (λ n. P n y) (omega arith) (all (suc j) y is)))
 
--- two maps one after the other are two others, where they are at each place
+-- two maps, one after the other, are the same as two others if they are so at each place
 pub maps_same : {A B C D : Type 0} (f : ℕ → B → C) (g : ℕ → A → B) (f' : ℕ → D → C) (g' : ℕ → A → D) (k : ℕ) (xs : List A)
     → AtEach (λ j x. f j (g j x) ≡ f' j (g' j x)) k xs → map_from f k (map_from g k xs) ≡ map_from f' k (map_from g' k xs)
 maps_same f g f' g' k [] same = refl

@@ -6,7 +6,7 @@ use Rattle.iio_desc.specs.DescReader.{Reader, new_reader, after_line, read_lines
 use Rattle.iio_history.specs.Law.{NoneEnds}
 use Rattle.iio_history.specs.Outcome.{head_from, described}
 
--- a fault is the answer for good
+-- after a fault all further answers are that fault
 fault_stays : (fault : DescFault) (lines : List (List ℕ)) → read_lines (Err fault) lines ≡ Err fault
 fault_stays fault [] = refl
 fault_stays fault (line ∷ lines) = fault_stays fault lines

@@ -1,4 +1,4 @@
--- Worked inputs: what the definitions say that each prints. Each is a description, a script and the printed text.
+-- Worked inputs: what the definitions say that each prints. Each row is a description, a script and the printed text.
 use Rattle.std.proofs.Common.{◌≡◌, ℕ, pos, List, [], ◌∷◌, ◌++◌, map, refl, codes, None, Ok, Err}
 use Rattle.std.specs.Fmt.{digits}
 use Rattle.iio_sensor.specs.Driver.{Driver}
@@ -10,7 +10,7 @@ use Rattle.iio_desc.specs.DescReader.{read_of}
 use Rattle.iio_history.specs.Script.{Finished, script_from}
 use Rattle.iio_history.specs.Outcome.{outcome_of, outcome_of_script}
 
--- a ramp of which these asks fail
+-- a ramp whose asks with these numbers fail
 abbrev ramp : List ℕ → Driver
 ramp fails = record { sample = λ shape c k t. number_at c k t; bias = λ c. pos 0; asked = 0; last = None; fails = fails; faults = 0 }
 
@@ -129,7 +129,7 @@ unplugged_device : plays adc
 unfolding digits
 unplugged_device = refl
 
--- where two checks fail, the refusal is the first one's
+-- if two checks fail, the refusal is that of the first one
 refusals_of_open_in_order : plays
     (codes "trigger t0 1\ndevice d t0\nchannel voltage0 le:u8/8>>0\ndevice e t0\nchannel voltage0 le:u8/8>>0\nchannel voltage1 le:u8/8>>0\nmasks 00000001\n")
     (codes "A \"OPEN d 1 00000001\\nOPEN d 0 00000001\\nOPEN e 1 00000002\\nOPEN e 1 00000001\\nOPEN e 1 000 CYCLIC\\n\"\nunplug e\nA \"OPEN e 1 00000001 CYCLIC\\n\"\n")
@@ -137,7 +137,7 @@ refusals_of_open_in_order : plays
 unfolding digits
 refusals_of_open_in_order = refl
 
--- a connection that is lost has ended; the last line is no step
+-- a lost connection has ended; the last line isn't a step
 lost_connections : plays adc
     (codes "# a comment, and a line without a word\n\nA \"OPEN adc0 1 00000001\\n\"\ndrop A\ndrop A\ndrop fire\nA \"OPEN\"\nfire t0 7\nclock 5\nfeed t0\n")
     ≡ codes "A \"0\\n\"\nA dropped\nA closed\nfire closed\nA closed\npoll t0 accepted 0\nclock 5\nrefused 18 count\n"
@@ -150,7 +150,7 @@ remask : plays adc (codes
 unfolding digits
 remask = refl
 
--- what was lost before a REMASK isn't counted after it; what it discarded is counted until the next OPEN; its refusals, in
+-- what was lost before a REMASK isn't counted after it; what it discarded is counted until the next OPEN; its refusals in
 -- their order
 remask_begins_anew : plays (codes "trigger t0 2\ndevice y t0\nchannel voltage0 le:u8/8>>0\nchannel voltage1 le:u8/8>>0\nmasks 00000001 00000002\nrow 0 65 66\n")
     (codes "A \"SET y BUFFERS_COUNT 1\\nOPEN y 1 00000001\\n\"\nfire t0 1\nfire t0 2\nA \"REMASK y 00000002\\nREAD y BUFFER overruns\\nREAD y BUFFER discarded\\n\"\nfire t0 3\nA \"READBUF y 1\\nREMASK y 00000003\\nREMASK y 0000001\\nREMASK y\\nREMASK z 00000001\\nREMASK y 00000000\\n\"\nB \"OPEN y 1 00000001\\n\"\nA \"CLOSE y\\nOPEN y 1 00000001\\nREAD y BUFFER discarded\\n\"\nunplug y\nA \"REMASK y 00000001\\n\"\n")
@@ -160,7 +160,7 @@ remask_begins_anew = refl
 
 -- ---- output devices and averaging devices
 
--- the description of a text, whose devices of the second one are output devices
+-- the description of a text, with the devices of the second text as output devices
 abbrev pub described : List ℕ → Description
 described text = elim (read_of 4 text) [ Ok d ↦ d | Err e ↦ record { context = []; triggers = []; devices = []; outputs = []; averages = [] } ]
 
@@ -198,7 +198,7 @@ refusals_of_outputs : plays_in dac
 unfolding digits encode_with
 refusals_of_outputs = refl
 
--- an input device isn't written
+-- an input device can't be written
 input_is_not_written : plays adc (codes "A \"OPEN adc0 1 00000001\\nWRITEBUF adc0 2\\nabREAD adc0 BUFFER underruns\\n\"\n") ≡ codes "A \"0\\n-38\\n-2\\n\"\n"
 unfolding digits
 input_is_not_written = refl
@@ -217,7 +217,7 @@ means_beside : plays_in avg
 unfolding digits
 means_beside = refl
 
--- the inner member is there while somebody is; what an averaging device refuses; it goes with its base
+-- the inner member is there while there is a member; what an averaging device refuses; it goes away with its base
 averages_in_turn : plays_in avg
     (codes "A \"OPEN avg0 1 00000005\\nREAD adc0 INPUT voltage0 raw\\nGETTRIG avg0\\nSETTRIG adc0\\nSETTRIG avg0\\nREMASK avg0 00000001\\nEVOPEN avg0\\nREAD avg0 name\\nREAD avg0 INPUT voltage0 raw\\nREAD avg0 BUFFER discarded\\nREAD avg0 BUFFER underruns\\nWRITEBUF avg0 1\\naOPEN avg0 1 00000001 CYCLIC\\n\"\nhandle t0 avg0\nsense avg0 5\nunplug avg0\nfire t0 1000\nA \"CLOSE avg0\\nREAD adc0 INPUT voltage0 raw\\nOPEN avg0 1 00000001\\n\"\nfire t0 1000\nA \"READ avg0 BUFFER data_available\\n\"\ndrop A\nfire t0 2000\nunplug adc0\nB \"OPEN avg0 1 00000001\\n\"\n")
     ≡ codes "A \"0\\n-16\\n2\\nt0\\n-16\\n-38\\n-38\\n-38\\n4\\navg0\\n-2\\n1\\n0\\n-2\\n-38\\n-38\\n\"\nhandle t0 avg0 none\navg0 sensed 0\navg0 gone\npoll t0 accepted 1\nhandle t0 adc0 captured\nA \"0\\n1\\n1\\n0\\n\"\npoll t0 accepted 1\nhandle t0 adc0 captured\nA \"1\\n0\\n\"\nA dropped\npoll t0 accepted 0\nadc0 unplugged\nB \"-19\\n\"\n"
@@ -237,7 +237,7 @@ head_without_end : prints (codes "trigger t0 2\ndevice adc0 t0\n") ≡ codes "re
 unfolding digits
 head_without_end = refl
 
--- the line of the script that has no LF is a line; its text has no closing quote
+-- the script's last line, without an LF, is a line; its text has no closing quote
 refused_in_the_script : prints (adc ++ codes "%%\nA \"VERSION") ≡ codes "refused 9 text\n"
 unfolding digits
 refused_in_the_script = refl

@@ -1,4 +1,4 @@
--- What a connection sent: what more bytes make whole goes by what was begun alone.
+-- What a connection sent: what further bytes complete depends only on what was begun.
 use Rattle.std.proofs.Common.{◌≡◌, ℕ, ◌||◌, Bool, true, false, List, [], ◌∷◌, ◌++◌, map, Some, is_some, cond, refl, sym, ap, ◌∙◌}
 use Rattle.std.proofs.lemmas.List.{map-append}
 use Rattle.std.specs.Str.{bytes_eq}
@@ -34,7 +34,7 @@ lines_kept s r e h (u ∷ us) =
     ap (λ (begun : Scanner). record { user = user_after s r e u; begun = begun } ∷ map (line_told (e ∷ h)) (map (user_after s r e) us)) (begun_is e h u.who)
     ∙ ap (λ (ls : List Line). line_after s r e (line_told h u) ∷ ls) (lines_kept s r e h us)
 
--- who isn't there sent nothing
+-- a connection that isn't there has sent nothing
 abbrev has_user : List ℕ → List ConnectionRecord → Bool
 has_user name us = is_some (user_named name us)
 

@@ -1,4 +1,4 @@
--- What an event is to a device.
+-- What an event means to a device: its act.
 use Rattle.std.specs.Prelude.{ℕ, ◌==◌, ◌&&◌, not, Bool, true, false, List, [], ◌∷◌, ◌++◌, is_ok, suc, Option, Some, None, Result, Ok, Err, if◌then◌else◌, ℤ, slice_get}
 use Rattle.iio_text.specs.declared.errors.Errno.{Errno}
 use Rattle.iio_text.specs.declared.values.Fixed.{Fixed}
@@ -26,21 +26,21 @@ pub data Act : Type 0 where
   Joining : (member : Member) → Act
   -- an accepted REMASK
   Remasking : (member : Member) (mask : ℕ) → Act
-  -- the memberships of these end, where they have one
+  -- the memberships of these end, if they have one
   Leaving : (gone : List Who) → Act
-  -- and the holdings of events of these
+  -- the holdings of events of these end, and their memberships as with `Leaving`
   Ending : (gone : List Who) → Act
   -- a READBUF that asks for `bytes` bytes
   Reading : (who : Who) (bytes : ℕ) → Act
-  -- an entry that is current is handled: its capture; of an averaging device the mean that is made with it
+  -- a current entry is handled: its capture; for an averaging device, the mean that is made with it
   Capturing : (capture : Capture) → Act
-  -- a capture of the base that counts towards the next mean
+  -- a capture of the base that counts towards the next mean, and makes none yet
   Gathering : (capture : Capture) → Act
   -- a WRITEBUF offers these scans
   Writing : (who : Who) (scans : List (List ℕ)) → Act
-  -- an entry that is current is handled at an output device: it is given the next scan, where one waits
+  -- a current entry is handled at an output device: the device is given the next scan, if one waits
   Giving : Act
-  -- the sensor's ask failed
+  -- the ask of the sensor failed
   Failing : (moment : ℤ) → Act
   -- a READ of `raw`
   Asking : Act
@@ -58,18 +58,18 @@ pub data Act : Type 0 where
 abbrev pub only : Bool → Act → Act
 only b act = if b then act else Nothing
 
--- what is accepted is an act, what is refused is none
+-- an accepted answer is an act; a refusal is none
 abbrev pub accepted : {A : Type 0} → (A → Act) → Result A Errno → Act
 accepted act (Ok x) = act x
 accepted act (Err e) = Nothing
 
 -- ---- the answers that a device decides
 
--- what a READ names, for a connection that is a member or isn't
+-- what a READ by this connection names; it depends on whether the connection is a member
 abbrev pub found : Device → Who → Place → Option (List ℕ) → Result Named Errno
 found d who place name = found_by d.kind d.shape d.site.plugged (is_member who d.members) place name
 
--- a WRITE: what is set to which value
+-- what a WRITE sets, and to which value
 abbrev pub write_found : Device → Who → Place → Option (List ℕ) → List ℕ → Result Assignment Errno
 write_found d who place name payload = write_found_by d.kind d.shape d.site.plugged (is_member who d.members) place name payload
 
@@ -80,13 +80,13 @@ abbrev pub is_raw : Attr → Bool
 is_raw attr.Raw = true
 is_raw a = false
 
--- a READ asks the sensor where it names `raw`, there is one, and the device has no member
+-- a READ asks the sensor if it names `raw`, the device is an input device, and the device has no member
 abbrev pub asking : Device → Named → Act
 asking d target = only (is_raw target.attribute && is_empty d.members && is_input d.kind) Asking
 
 -- ---- events
 
--- the handling of an entry that is current
+-- the handling of a current entry
 abbrev pub current_entry : Kind → Outline → Handed → Act
 current_entry Output o e = Giving
 current_entry (Average base window) o e = Nothing
@@ -94,7 +94,7 @@ current_entry Input o e =
     if ask_fails o.site.driver then Failing e.t
     else Capturing (record { moment = e.t; values = values_of o.site.driver o.shape e.t })
 
--- the handling of an entry
+-- the handling of an entry, which does nothing if the entry isn't current
 abbrev pub handled_entry : Outline → Handed → Act
 handled_entry o e =
     if not (is_current e.attachment o.site.attachment o.masks o.site.plugged) then Nothing else current_entry o.kind o e
@@ -105,11 +105,11 @@ handled_act o (Some e) = handled_entry o e
 
 -- ---- averaging devices: the inner member, and the means
 
--- the inner member that averaging device j has at that base
+-- the inner member that averaging device j has at its base
 abbrev pub inner_member : ℕ → Device → Member
 inner_member j base = record { who = Inner j; mask = full_mask base.shape; capacity = 1; cyclic = false }
 
--- an accepted OPEN of device j is to device k the inner member's joining, where that isn't there yet
+-- an accepted OPEN of device j makes the inner member join device k, if k is its base and the inner member isn't there yet
 abbrev pub inner_joins : Kind → ℕ → ℕ → Device → Bool → Act
 inner_joins kind j k d is_accepted = only (is_accepted && is_over kind k && is_input d.kind && not (is_member (Inner j) d.members)) (Joining (inner_member j d))
 
@@ -119,18 +119,18 @@ inner_joining s r name samples text cyclic j k d = elim (slice_get r.devices j) 
   | Some x ↦ inner_joins x.kind j k d (is_ok (open_answer s r x (Conn name) (buffers_of r.users name j) samples text cyclic))
 ]
 
--- an OPEN of device j, if any, is to device k
+-- what an OPEN of device j, if there is such a device, means to device k
 abbrev pub open_act : Setup → Registry → List ℕ → ℕ → List ℕ → Bool → Option ℕ → ℕ → Device → Act
 open_act s r name samples text cyclic None k d = Nothing
 open_act s r name samples text cyclic (Some j) k d =
     if j == k then accepted (λ m. Joining m) (open_answer s r d (Conn name) (buffers_of r.users name k) samples text cyclic)
     else inner_joining s r name samples text cyclic j k d
 
--- the inner member of device j at device k, where these leave j without a member
+-- the inner member of device j at device k, if the leaving of these leaves j without a member
 abbrev pub inner_left : List Who → ℕ → ℕ → Device → List Who
 inner_left gone j k d = if is_over d.kind k && is_left_empty gone d.members then Inner j ∷ [] else []
 
--- of all devices; `j` is the first one's number
+-- the same for all devices; `j` is the number of the first one
 abbrev pub inners_left : List Who → ℕ → ℕ → List Device → List Who
 inners_left gone k j [] = []
 inners_left gone k j (d ∷ ds) = inner_left gone j k d ++ inners_left gone k (suc j) ds
@@ -142,12 +142,12 @@ inners_at r gone k d = if is_input d.kind then inners_left gone k 0 r.devices el
 abbrev pub inner_left_at : Registry → List Who → ℕ → ℕ → Device → List Who
 inner_left_at r gone j k d = if is_input d.kind then elim (slice_get r.devices j) [ None ↦ [] | Some x ↦ inner_left gone j k x ] else []
 
--- where nobody leaves it is nothing to the device
+-- if nobody leaves, it means nothing to the device
 abbrev pub leaving : List Who → Act
 leaving [] = Nothing
 leaving (who ∷ gone) = Leaving (who ∷ gone)
 
--- a CLOSE of device j, if any, is to device k
+-- what a CLOSE of device j, if there is such a device, means to device k
 abbrev pub close_act : Registry → List ℕ → Option ℕ → ℕ → Device → Act
 close_act r name None k d = Nothing
 close_act r name (Some j) k d = if j == k then Leaving (Conn name ∷ []) else leaving (inner_left_at r (Conn name ∷ []) j k d)
@@ -165,7 +165,7 @@ abbrev pub capture_at : Registry → ℕ → ℕ → Option Capture
 capture_at r trigger k =
     elim (slice_get r.devices k) [ None ↦ None | Some d ↦ capture_by (handled_act (outline_of d) (entry_of k (entries_at r.triggers trigger))) ]
 
--- a capture of the base: with it, the last of so many, a mean is made at once
+-- a capture of the base: if it is the last one that a mean needs, the mean is made at once
 abbrev pub gathering : ℕ → Window → Capture → Act
 gathering size w c = if is_filled_by size w then Capturing (record { moment = c.moment; values = means_of size (sums_with w c.values) }) else Gathering c
 
@@ -173,14 +173,14 @@ abbrev pub gathered : ℕ → Device → Option Capture → Act
 gathered size d None = Nothing
 gathered size d (Some c) = if is_empty d.members then Nothing else gathering size d.window c
 
--- the handling of an entry of `device` is to device k, by its kind
+-- what the handling of the entry of `device` means to device k, by the kind of k
 abbrev pub handled_by : Registry → ℕ → ℕ → ℕ → Kind → Device → Act
 handled_by r trigger device k (Average base size) d = only (device == base) (gathered size d (capture_at r trigger base))
 handled_by r trigger device k kind d = only (device == k) (handled_act (outline_of d) (entry_of k (entries_at r.triggers trigger)))
 
 -- ---- items
 
--- an item that names the device
+-- what an item of a connection means to device k
 abbrev pub item_act : Setup → Registry → List ℕ → Item → ℕ → Device → Act
 item_act s r name (Said (Ok (Open device samples text cyclic))) k d = open_act s r name samples text cyclic (find_device s.desc device) k d
 item_act s r name (Said (Ok (Close device))) k d = close_act r name (find_device s.desc device) k d
@@ -200,7 +200,7 @@ item_act s r name (Said (Ok (EvClose device))) k d = only (is_named s device k &
 item_act s r name (End refusal) k d = end_act r name k d
 item_act s r name item k d = Nothing
 
--- what an event is to device k
+-- what an event means to device k
 abbrev pub act_of : Setup → Registry → Event → ℕ → Device → Act
 act_of s r (Heard name item) k d = item_act s r name item k d
 act_of s r (Dropped name) k d = end_act r name k d

@@ -6,6 +6,6 @@ use Rattle.iio_device.specs.Stored.{attr_value}
 use Rattle.iiod_session.specs.Attributes.{text_of_value}
 use Rattle.iio_history.specs.Who.{Who}
 
--- the text of an attribute of a device of that name, or of a channel of it; `raw` isn't kept
+-- the text of an attribute of a device of that name, or of one of its channels; `raw` isn't kept
 abbrev pub value_text : List ℕ → Option ℕ → Attr → Site Who → List ℕ
 value_text name channel a site = text_of_value (attr_value name channel a site)

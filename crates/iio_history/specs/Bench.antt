@@ -1,4 +1,4 @@
--- The told state as a session sees it: its machine, where members and holders go by numbers; and the client of a connection,
+-- The told state as a session sees it: its machine, in which members and holders are numbers; and the client of a connection,
 -- which is what the connection has of the told state.
 use Rattle.std.specs.Prelude.{◌≡◌, ℕ, suc, ◌-◌, ◌^◌, ◌<◌, ◌≤◌, ◌==◌, ◌||◌, Bool, true, false, List, [], ◌∷◌, map, length, Option, Some, None, option_map, slice_get, if◌then◌else◌}
 use Rattle.std.specs.Str.{bytes_eq}
@@ -23,7 +23,7 @@ use Rattle.iio_history.specs.Machine.{step}
 use Rattle.iio_history.specs.Reply.{reply, seat_of}
 use Rattle.iio_history.specs.Law.{AreApart}
 
--- ---- connections by number: by the place of the line
+-- ---- connections by number: by the place of their line
 
 abbrev pub name_of : Line → List ℕ
 name_of l = l.user.who
@@ -31,7 +31,7 @@ name_of l = l.user.who
 abbrev pub names_of : Told → List (List ℕ)
 names_of m = map name_of m.lines
 
--- the place of a name; of one that isn't there, how many there are
+-- the place of a name; for a name that isn't there, the number of names
 abbrev pub place_in : List (List ℕ) → List ℕ → ℕ
 place_in [] name = 0
 place_in (n ∷ ns) name = if bytes_eq n name then 0 else suc (place_in ns name)
@@ -50,7 +50,7 @@ place_of_who names (Inner device) = 0
 abbrev pub front_of : Setup → Front
 front_of s = first_front s.desc
 
--- the holder of the events goes by its number
+-- the holder of the events is given by its number
 abbrev pub monitor_by : List (List ℕ) → MonitorRecord Who → MonitorRecord ℕ
 monitor_by names x = record { channels = x.channels; holder = option_map (place_of_who names) x.holder; events = x.events }
 
@@ -65,7 +65,7 @@ site_by names site = record {
   monitor = monitor_by names site.monitor;
 }
 
--- a member goes by its number
+-- a member is given by its number
 abbrev pub inner_of : Who → Option ℕ
 inner_of (Conn name) = None
 inner_of (Inner device) = Some device
@@ -103,7 +103,7 @@ abbrev pub seat_at : ℕ → List SeatState → Option SeatState
 seat_at dev [] = None
 seat_at dev (s ∷ ss) = if s.dev == dev then Some s else seat_at dev ss
 
--- no two seats have one device
+-- no two seats are at the same device
 abbrev pub OnePerDevice : List SeatState → Type 0
 OnePerDevice [] = Unit {0}
 OnePerDevice (s ∷ ss) = (seat_at s.dev ss ≡ None) × OnePerDevice ss
@@ -124,7 +124,8 @@ abbrev pub holds_in : Who → Option Station → Bool
 holds_in who None = false
 holds_in who (Some st) = is_holder same who st.site.monitor
 
--- the connection's number; its memberships, device by device; its buffers counts; and all devices whose events it holds
+-- a client has its connection's number, its memberships, device by
+-- device, its buffers counts, and all devices whose events it holds
 pub record IsClientOf (m : Told) (name : List ℕ) (client : ClientRecord) : Type 0 where
   pub who : client.who ≡ place_in (names_of m) name
   pub seats : (k : ℕ) → seat_at k client.seats ≡ seat_in k (Conn name) (slice_get m.stations k)
@@ -151,7 +152,7 @@ IsHolderThere names None = Unit {0}
 IsHolderThere names (Some (Conn name)) = is_in names name ≡ true
 IsHolderThere names (Some (Inner device)) = ⊥
 
--- a seat is of a connection that is there, has a channel's data in each scan, and its queue holds what it can hold
+-- a seat belongs to a connection that is there, has a channel's data in each scan, and its queue holds no more than it can
 pub record IsSeat (names : List (List ℕ)) (shape : ShapeRecord) (x : Seat) : Type 0 where
   pub there : IsThere names x.member.who
   pub channel : has_data shape x.member.mask ≡ true
@@ -162,15 +163,15 @@ abbrev pub NumbersRise : ℕ → ℕ → List Seat → Type 0
 NumbersRise low high [] = low ≤ high
 NumbersRise low high (x ∷ xs) = (low ≤ x.number) × NumbersRise (suc x.number) high xs
 
--- a scan with a channel's data has a byte
+-- each scan with a channel's data has at least one byte
 abbrev pub HasSizes : ShapeRecord → Type 0
 HasSizes shape = (mask : ℕ) → has_data shape mask ≡ true → 1 ≤ scan_size shape mask
 
--- all channels of a device have data among them
+-- the full mask of a device selects a channel with data
 abbrev pub HasFull : Device → Type 0
 HasFull d = has_data d.shape (full_mask d.shape) ≡ true
 
--- no connection has two seats, and the numbers of seats are apart, below how many joined
+-- no connection has two seats, and the numbers of the seats are distinct and below the number of joinings
 pub record IsStation (names : List (List ℕ)) (st : Station) : Type 0 where
   pub apart : AreApart (map member_of_seat st.seats)
   pub rising : NumbersRise 0 st.joinings st.seats
@@ -186,7 +187,7 @@ pub record HasDeviceSizes (d : DeviceHead) : Type 0 where
   pub sizes : HasSizes d.shape
   pub full : has_data d.shape (full_mask d.shape) ≡ true
 
--- as its connections know it, but for the name
+-- what its connections know of it, but for the name
 abbrev pub kind_of_station : Station → Kind
 kind_of_station st = st.kind
 
@@ -196,7 +197,7 @@ shape_of_head d = d.shape
 abbrev pub kind_of_head : DeviceHead → Kind
 kind_of_head d = d.kind
 
--- each connection has a buffers count of each device
+-- each connection has a buffers count for each device
 abbrev pub HasBuffers : Setup → Line → Type 0
 HasBuffers s l = length l.user.buffers ≡ length (heads_of s.desc)
 
@@ -207,12 +208,12 @@ pub record IsBench (s : Setup) (m : Told) : Type 0 where
   pub kinds : map kind_of_station m.stations ≡ map kind_of_head (heads_of s.desc)
   pub stations : Every (IsStation (names_of m)) m.stations
 
--- an event that a step can be: one of a connection that is there
+-- an event that a step can stand for: an item has to be one of a connection that is there
 abbrev pub IsStep : List (List ℕ) → Event → Type 0
 IsStep names (Heard name item) = is_in names name ≡ true
 IsStep names e = Unit {0}
 
--- whether members can still be numbered
+-- whether a further member can be numbered
 abbrev pub CanJoin : Station → Type 0
 CanJoin st = st.joinings < 2 ^ 64 - 1
 

@@ -29,7 +29,7 @@ FirstIsBench = (s : Setup) → Every HasDeviceSizes (heads_of s.desc) → IsBenc
 abbrev pub BenchIsKept : Type 0
 BenchIsKept = (s : Setup) (m : Told) (e : Event) → IsStep (names_of m) e → IsBench s m → IsBench s (step s m e)
 
--- and so of the told state of every history of steps
+-- the told state of every history of steps is a bench as well
 abbrev pub AreSteps : Setup → List Event → Type 0
 AreSteps s [] = Unit {0}
 AreSteps s (e ∷ h) = IsStep (names_of (told s h)) e × AreSteps s h
@@ -37,13 +37,13 @@ AreSteps s (e ∷ h) = IsStep (names_of (told s h)) e × AreSteps s h
 abbrev pub ToldIsBench : Type 0
 ToldIsBench = (s : Setup) (h : List Event) → Every HasDeviceSizes (heads_of s.desc) → AreSteps s h → IsBench s (told s h)
 
--- where each channel's type has a byte, each scan with a channel's data has one
+-- if each channel's type has at least one byte, so has each scan with a channel's data
 abbrev pub SizesAreSome : Type 0
 SizesAreSome = (shape : ShapeRecord) → All (λ (channel : Channel). 1 ≤ size_of channel.ty) shape.channels → HasSizes shape
 
 -- ---- connections that are there
 
--- one that is there stays; one of which bytes arrive is there; one that hasn't ended is there
+-- a connection that is there stays; one whose bytes arrive is there; one that hasn't ended is there
 abbrev pub NamesStay : Type 0
 NamesStay = (s : Setup) (m : Told) (e : Event) (name : List ℕ) → is_in (names_of m) name ≡ true → is_in (names_of (step s m e)) name ≡ true
 
@@ -55,11 +55,11 @@ LiveIsThere = (m : Told) (name : List ℕ) → is_live name (registry_of m).user
 
 -- ---- numbers of members
 
--- `n` members more can be numbered
+-- `n` further members can be numbered
 abbrev pub CanJoinMore : ℕ → Station → Type 0
 CanJoinMore n st = st.joinings + n ≤ 2 ^ 64 - 1
 
--- an event makes one more at most, and at first there is none
+-- at first all numbers are free, and an event uses at most one
 abbrev pub RoomLasts : Type 0
 RoomLasts =
     (s : Setup)
@@ -69,14 +69,14 @@ RoomLasts =
 
 -- ---- items
 
--- the answer to an item, and what stands then, are the same by the session's machine and by the history
+-- the answer to an item, and the state after it, are the same by the session's machine and by the history
 abbrev pub ItemsAreActs : Type 0
 ItemsAreActs =
     (s : Setup) (m : Told) (name : List ℕ) (client : ClientRecord) (item : Item) → IsBench s m → is_in (names_of m) name ≡ true → IsClientOf m name client
     → Every CanJoin m.stations
     → IsAct s m name item (act (front_of s) (machine_of m) client item)
 
--- what a session promises of an item over a told state, by the history: want of memory changes nothing
+-- what a session promises of an item over a told state, by the history: running out of memory changes nothing
 abbrev pub TellsAs : Setup → Told → List ℕ → ClientRecord → Item → Reply → Option Machine → ClientRecord → Type 0
 TellsAs s m name client item NoMemory machine client' = (machine ≡ Some (machine_of m)) × (client' ≡ client)
 TellsAs s m name client item answer machine client' =
@@ -90,7 +90,7 @@ ActsTell =
 
 -- ---- other events, and other connections
 
--- an event of another connection than this one, or of none
+-- an event of a connection other than this one, or of none
 abbrev pub IsOthers : List ℕ → Event → Type 0
 IsOthers name (Heard speaker item) = bytes_eq speaker name ≡ false
 IsOthers name (Dropped speaker) = bytes_eq speaker name ≡ false
@@ -101,7 +101,7 @@ ClientsAreKept =
     (s : Setup) (m : Told) (e : Event) (name : List ℕ) (client : ClientRecord) → IsOthers name e → is_in (names_of m) name ≡ true → IsClientOf m name client
     → IsClientOf (step s m e) name client
 
--- a connection that comes has nothing
+-- a new connection has nothing
 abbrev pub new_client : ℕ → ClientRecord
 new_client who = record { who = who; seats = []; buffers = []; holdings = [] }
 
@@ -115,7 +115,7 @@ ArrivalIsNothing = (s : Setup) (m : Told) (name bytes : List ℕ) → IsBench s 
 
 -- ---- ends
 
--- the end of a connection closes its seats, and ends its holdings
+-- the end of a connection closes its seats and ends its holdings
 pub record IsLeft (s : Setup) (m : Told) (name : List ℕ) (client : ClientRecord) (e : Event) : Type 0 where
   pub state : left_machine (front_of s) (machine_of m) client ≡ machine_of (step s m e)
   pub client_then : IsClientOf (step s m e) name (left_client client)
@@ -142,8 +142,7 @@ FeedsAreActs =
     (s : Setup) (m : Told) (name : List ℕ) (client : ClientRecord) (items : List Item) → IsBench s m → is_in (names_of m) name ≡ true → IsClientOf m name client
     → Every (CanJoinMore (length items)) m.stations → IsFed s m name client items
 
--- a session's feed in a script, over the told state: it prints what the history says, and what stands then is what the
--- history tells
+-- a session's feed in a script, over the told state, prints what the history says, and the state after it is the history's
 abbrev pub ScriptFeedsTell : Type 0
 ScriptFeedsTell =
     (s : Setup) (m : Told) (name : List ℕ) (items : List Item) (a b : State) (before after : List ℕ) → IsBench s m → is_in (names_of m) name ≡ true
@@ -154,7 +153,7 @@ ScriptFeedsTell =
     × IsClientOf (steps s m (heard name items)) name b.client
     × IsBench s (steps s m (heard name items))
 
--- and the other connections keep theirs
+-- the other connections keep their clients
 abbrev pub FeedsKeepClients : Type 0
 FeedsKeepClients =
     (s : Setup) (m : Told) (name : List ℕ) (items : List Item) (other : List ℕ) (client : ClientRecord) → bytes_eq name other ≡ false

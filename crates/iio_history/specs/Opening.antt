@@ -1,5 +1,5 @@
--- What decides an OPEN, a REMASK and a SETTRIG: the refusals in their order. (Which errno is the kernel's or libiio's, and
--- which this project's own, is said in docs/FORMATS.md.)
+-- What decides an OPEN, a REMASK and a SETTRIG: the refusals in their order. (docs/FORMATS.md says which errno is the
+-- kernel's or libiio's, and which is this project's own.)
 use Rattle.std.specs.Prelude.{ℕ, ◌*◌, ◌&&◌, not, nat_lt, Bool, List, [], ◌∷◌, ◌++◌, length, map, Option, Some, None, is_some, is_none, slice_get, unwrap_or, Result, Ok, option_map}
 use Rattle.std.specs.Option.{ok_or}
 use Rattle.iio_base.specs.Refusals.{ensure, ◌>>=◌, first_refusal, unless_refused}
@@ -24,18 +24,18 @@ use Rattle.iio_history.specs.Registry.{Setup, Member, Device, Outline, Registry,
 
 -- ---- OPEN
 
--- whether there is no further membership for somebody: the connection has the device open, or anybody has an output device
+-- whether somebody can have no further membership: the connection has the device open, or anybody has the output device open
 abbrev pub is_taken : Kind → Who → List Member → Bool
 is_taken Output who ms = not (is_empty ms)
 is_taken kind who ms = is_member who ms
 
--- where a new membership wants its place
+-- the device at which a new membership needs a place
 abbrev pub host_of : List Device → Device → ℕ → Host Outline
 host_of ds d mask =
     host_by d.kind (own_host (outline_of d) d.shape mask (outline_of d).masks)
     (λ base. option_map (λ (b : Device). inner_host (is_empty d.members) (outline_of b) b.shape) (slice_get ds base))
 
--- the refusals of an OPEN at a device, in their order; `is_open` is whether it is taken
+-- the refusals of an OPEN at a device, in their order; `is_open` says whether the device is taken
 abbrev pub open_refusals : Setup → List Attachment → Host Outline → Outline → Bool → Bool → Bool → ℕ → ℕ → List (Bool × Errno)
 open_refusals s devices host o is_open is_mask cyclic mask capacity =
     asked_refusals (not o.site.plugged) (cyclic && not (is_output o.kind)) (not is_mask) (not (has_data o.shape mask))
@@ -47,7 +47,7 @@ abbrev pub opened : Setup → List Attachment → Host Outline → Outline → B
 opened s devices host o is_open is_mask cyclic m =
     unless_refused m (first_refusal (open_refusals s devices host o is_open is_mask cyclic m.mask m.capacity))
 
--- the membership that is asked for: the capacity is samples times the buffers count
+-- the membership that is asked for: its capacity is the number of samples times the buffers count
 abbrev pub member_asked : Device → Who → ℕ → ℕ → List ℕ → Bool → Member
 member_asked d who buffers samples text cyclic =
     record { who = who; mask = unwrap_or (mask_of text (count_of d.shape)) 0; capacity = samples * buffers; cyclic = cyclic }
@@ -60,13 +60,13 @@ open_answer s r d who buffers samples text cyclic =
 
 -- ---- REMASK
 
--- the refusals of a member's new mask, in their order, beside the masks of the others
+-- the refusals of a member's new mask, in their order; `others` are the masks of the other members
 abbrev pub remask_refusals : ShapeRecord → List ℕ → Member → Bool → ℕ → List (Bool × Errno)
 remask_refusals shape others m is_mask mask =
     mask_refusals (not is_mask) (not (has_data shape mask)) (nat_lt MAX_BYTES (m.capacity * scan_size shape mask))
     ++ (is_without_union shape others mask, EINVAL) ∷ []
 
--- a mask is given to a member
+-- a member, and the mask that it is given
 pub record Remasked : Type 0 where
   pub member : Member
   pub mask : ℕ
@@ -87,13 +87,13 @@ remask_answer d who text = do
 
 -- ---- WRITEBUF
 
--- the scans of a payload that a member offers
+-- the scans of a payload, which a member offers
 abbrev pub offering : ShapeRecord → List ℕ → Member → Result (List (List ℕ)) Errno
 offering shape payload m = do
   whole ← ensure (not (is_bad_size m.cyclic m.capacity (scan_size shape m.mask) (length payload))) EINVAL
   Ok (scans_of (scan_size shape m.mask) payload)
 
--- what a WRITEBUF offers to a device: what waits there decides the rest
+-- the scans that a WRITEBUF offers to a device; the scans that wait there decide the rest
 abbrev pub write_answer : Device → Who → List ℕ → Result (List (List ℕ)) Errno
 write_answer d who payload = do
   plugged ← ensure d.site.plugged ENODEV
@@ -109,6 +109,6 @@ trigger_named s (Some name) = do
   t ← ok_or (find_trigger s.desc name) ENOENT
   Ok (Some t)
 
--- the answer to a SETTRIG of a device: its new trigger
+-- the answer to a SETTRIG at a device: its new trigger
 abbrev pub trigger_answer : Setup → Outline → Option (List ℕ) → Result (Option ℕ) Errno
 trigger_answer s o name = settrig_answer o.kind o.site.plugged (is_empty o.masks) (trigger_named s name)

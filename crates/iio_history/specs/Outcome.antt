@@ -14,19 +14,19 @@ use Rattle.iio_history.specs.Script.{Ending, Finished, Refused, TooLong, Script,
 -- ---- the description at the head
 
 pub data Head : Type 0 where
-  -- a description, and the lines after it, the first of which has that number
+  -- a description and the lines after it; the first of them has the number `first`
   Described : (desc : Description) (first : ℕ) (lines : List (List ℕ)) → Head
-  -- the first line that is refused; want of memory comes of no line
+  -- the first line that is refused; its fault is never that memory ran out
   Faulty : (fault : DescFault) → Head
-  -- the lines that are looked at end before the description does
+  -- the looked-at lines end before the description does
   Cut : Head
 
 abbrev pub described : ℕ → List (List ℕ) → Result Description DescFault → Head
 described first lines (Ok desc) = Described desc first lines
 described first lines (Err fault) = Faulty fault
 
--- the head of these lines after a reader, the first of which has number n; where they are all, their end ends the
--- description
+-- the head of these lines for a reader that has read the lines before; the first
+-- line has number n; if these are all lines, the description ends with them
 abbrev pub head_from : Bool → Reader → ℕ → List (List ℕ) → Head
 head_from overlong (Err fault) n lines = Faulty fault
 head_from overlong (Ok reading) n [] = if overlong then Cut else described n [] (finished (Ok reading))
@@ -43,7 +43,7 @@ pub record Outcome : Type 0 where
   pub printed : List ℕ
   pub ending : Ending
 
--- an input that ends where nothing was printed yet
+-- an input that ends before anything was printed
 abbrev pub only_ending : Ending → Outcome
 only_ending ending = record { printed = ending_text ending; ending = ending }
 
@@ -51,7 +51,7 @@ only_ending ending = record { printed = ending_text ending; ending = ending }
 abbrev pub outcome_of_script : Setup → Script → Outcome
 outcome_of_script s script = record { printed = script_text s script; ending = script.ending }
 
--- how the lines that are looked at end
+-- how the looked-at lines end
 abbrev pub last_ending : Bool → Ending
 last_ending overlong = if overlong then TooLong else Finished
 

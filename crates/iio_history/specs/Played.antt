@@ -1,4 +1,4 @@
--- What steps print by the plain machine. No reader has to believe it: the law says that it is the transcript.
+-- What the plain machine prints for steps. No reader has to believe it: the law says that it is the transcript.
 use Rattle.std.specs.Prelude.{ℕ, List, [], ◌∷◌, ◌++◌}
 use Rattle.iio_history.specs.Event.{Event}
 use Rattle.iio_history.specs.Registry.{Setup}

@@ -1,5 +1,5 @@
--- Who has which device open after a history, what is outstanding at the triggers, and what the drivers were asked: plain
--- data. There is no queue, no scan and no copy table in it.
+-- Who has which device open after a history, what is outstanding at the triggers, and what the drivers were asked, as plain
+-- data. It has no queues, scans or copy tables.
 use Rattle.std.specs.Prelude.{ℕ, ◌==◌, ◌||◌, ◌&&◌, not, Bool, false, List, [], ◌∷◌, map, slice_index_or, Option, Some, None, if◌then◌else◌, ℤ}
 use Rattle.std.specs.Str.{bytes_eq}
 use Rattle.iio_layout.specs.Shape.{ShapeRecord}
@@ -20,15 +20,15 @@ pub record Setup : Type 0 where
   pub desc : Description
   pub drivers : List Driver
 
--- a membership of a device: whose it is, its mask, which is that of its OPEN or of its last REMASK, how many scans its queue
--- holds, and whether it is a writer of an output device whose scans come round again
+-- a membership of a device: whose it is; its mask, which is that of its OPEN or of its last REMASK; the capacity of its queue
+-- in scans; and whether it is a cyclic writer of an output device, whose scans are repeated
 pub record Member : Type 0 where
   pub who : Who
   pub mask : ℕ
   pub capacity : ℕ
   pub cyclic : Bool
 
--- a device: its kind and its shape, which nothing changes, and its members in the order of their joining
+-- a device: its kind and its shape, which never change, and its members in the order of their joining
 pub record Device : Type 0 where
   pub kind : Kind
   pub shape : ShapeRecord
@@ -37,7 +37,7 @@ pub record Device : Type 0 where
   pub window : Window
   pub members : List Member
 
--- what a device is to its sensor and to a new member: there are no names in it
+-- what a device is to its sensor and to a new member; it has no names
 pub record Outline : Type 0 where
   pub kind : Kind
   pub shape : ShapeRecord
@@ -56,7 +56,7 @@ pub record Registry : Type 0 where
   pub triggers : List Trigger
   pub devices : List Device
 
--- ---- words on it
+-- ---- functions of these
 
 abbrev pub mask_of_member : Member → ℕ
 mask_of_member m = m.mask
@@ -64,7 +64,7 @@ mask_of_member m = m.mask
 abbrev pub outline_of : Device → Outline
 outline_of d = record { kind = d.kind; shape = d.shape; site = d.site; masks = map mask_of_member d.members }
 
--- what devices are to triggers
+-- what triggers see of devices
 abbrev pub attachment_of : Device → Attachment
 attachment_of d = attachment_by d.site d.members
 
@@ -80,12 +80,12 @@ abbrev pub member_of : Who → List Member → Option Member
 member_of who [] = None
 member_of who (m ∷ ms) = if same who m.who then Some m else member_of who ms
 
--- the members that are none of these
+-- the members other than these
 abbrev pub without_members : List Who → List Member → List Member
 without_members gone [] = []
 without_members gone (m ∷ ms) = if is_among m.who gone then without_members gone ms else m ∷ without_members gone ms
 
--- whether the last membership ends where those of these end
+-- whether there is a last membership that ends when those of these end
 abbrev pub is_left_empty : List Who → List Member → Bool
 is_left_empty gone ms = not (is_empty ms) && is_empty (without_members gone ms)
 
@@ -102,7 +102,7 @@ abbrev pub user_named : List ℕ → List ConnectionRecord → Option Connection
 user_named name [] = None
 user_named name (u ∷ us) = if bytes_eq u.who name then Some u else user_named name us
 
--- whether it is there and has ended, and whether it is there and hasn't
+-- whether the connection is there and has ended, and whether it is there and hasn't
 abbrev pub has_ended : List ℕ → List ConnectionRecord → Bool
 has_ended name us = elim (user_named name us) [ None ↦ false | Some u ↦ u.ended ]
 

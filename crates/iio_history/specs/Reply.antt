@@ -1,6 +1,6 @@
--- The answer to an item of a connection, by what stands after a history: READBUF and the numbers of a buffer are by the
--- member's queue, all else by the registry. (Commands and answers: libiio 0.25's iiod; docs/FORMATS.md says which part is
--- this project's own.)
+-- The answer to an item of a connection, by the state after a history: READBUF and the numbers
+-- of a buffer depend on the member's queue, everything else on the registry. (Commands and
+-- answers: libiio 0.25's iiod; docs/FORMATS.md says which part is this project's own.)
 use Rattle.std.specs.Prelude.{ℕ, ℤ, pos, ◌*◌, ◌/◌, ◌||◌, not, nat_lt, Bool, List, [], ◌∷◌, take, length, Option, Some, None, is_none, slice_get, slice_index_or, Result, Ok, Err, if◌then◌else◌}
 use Rattle.std.specs.Fmt.{decimal, signed_decimal}
 use Rattle.std.specs.Option.{ok_or}
@@ -31,12 +31,12 @@ use Rattle.iio_history.specs.Opening.{open_answer, remask_answer, write_answer, 
 use Rattle.iio_history.specs.Act.{found, write_found}
 use Rattle.iio_history.specs.Told.{Seat, Station, Told, device_of, registry_of}
 
--- an answer, or a refusal
+-- an answer is itself, and a refusal is answered as one
 abbrev pub replied : Result Reply Errno → Reply
 replied (Ok reply) = reply
 replied (Err e) = Refusal e
 
--- ---- who is spoken of
+-- ---- the device that is named
 
 -- a device, and its number
 pub record KnownDevice : Type 0 where
@@ -50,14 +50,15 @@ known s m name = do
   st ← ok_or (slice_get m.stations k) ENODEV
   Ok (record { number = k; station = st })
 
--- the device of that name, where it is plugged
+-- the device of that name, if it is plugged
 abbrev pub there : Setup → Told → List ℕ → Result KnownDevice Errno
 there s m name = do
   x ← known s m name
   plugged ← ensure x.station.site.plugged ENODEV
   Ok x
 
--- the device of that name, for a command that devices of some kinds alone know: the others answer that once they are plugged
+-- the device of that name, for a command that only some kinds of devices
+-- know: if one of another kind is plugged, the answer is `ENOSYS`
 abbrev pub known_as : (Kind → Bool) → Setup → Told → List ℕ → Result KnownDevice Errno
 known_as knows s m name = do
   x ← known s m name
@@ -77,7 +78,7 @@ seat_of who (x ∷ xs) = if same who x.member.who then Some x else seat_of who x
 
 -- ---- buffers
 
--- as many scans as are asked for and wait; nothing where less than one is asked for
+-- the waiting scans, at most as many as are asked for; no scans if fewer than one are asked for
 abbrev pub read_buffer : Station → Seat → ℕ → Result Reply Errno
 read_buffer st x asked =
     let size = scan_size st.shape x.member.mask in
@@ -96,7 +97,7 @@ buffer_value a seat = do
 
 -- ---- WRITEBUF
 
--- by what waits: a cycle stands; no room
+-- what waits decides: it is refused if a cycle stands, or if there is no room
 abbrev pub write_buffer : Station → Seat → List (List ℕ) → Result Reply Errno
 write_buffer st x scans = do
   free ← ensure (not (is_standing x.member.cyclic x.queue.scans)) EBUSY
@@ -105,14 +106,14 @@ write_buffer st x scans = do
 
 -- ---- attributes
 
--- `raw` asks the sensor, where the device has no member
+-- `raw` asks the sensor, if the device has no member
 abbrev pub raw_value : ℤ → Station → ℕ → Result Reply Errno
 raw_value clock st c = do
   alone ← ensure (is_empty st.seats) EBUSY
   asked ← ensure (not (ask_fails st.site.driver)) EIO
   Ok (Value (signed_decimal (value_of st.site.driver st.shape clock c 0)))
 
--- ... and of an output device it is the last one that it was given
+-- .. and for an output device it is the last value that it was given
 abbrev pub raw_by : Kind → ℤ → Station → ℕ → Result Reply Errno
 raw_by Output clock st c = Ok (Value (signed_decimal (slice_index_or st.last c (pos 0))))
 raw_by kind clock st c = raw_value clock st c
@@ -128,7 +129,7 @@ read_value s clock x who place attribute = do
       then buffer_value target.attribute (seat_of who x.station.seats)
       else attribute_value s clock x target.channel target.attribute
 
--- the trigger of a device; of an averaging device it is its base's
+-- the trigger of a device; for an averaging device, its base's trigger
 abbrev pub trigger_of : Told → Kind → Station → Option ℕ
 trigger_of m (Average base window) st = elim (slice_get m.stations base) [ None ↦ None | Some b ↦ b.site.trigger ]
 trigger_of m kind st = st.site.trigger

@@ -1,4 +1,4 @@
--- What the lines of a script say: steps, up to the first line that is refused. (This project's own.)
+-- What the lines of a script mean: steps, up to the first line that is refused. (This project's own.)
 use Rattle.std.specs.Prelude.{ℕ, ℤ, ◌+◌, ◌==◌, ◌||◌, nat_lt, Bool, true, false, List, [], ◌∷◌, ◌++◌, length, codes, Option, Some, None, Result, Ok, Err, if◌then◌else◌}
 use Rattle.std.specs.Fmt.{decimal}
 use Rattle.std.specs.List.{list_any}
@@ -77,7 +77,7 @@ unplug_step desc words = do
   device ← device_word desc device
   Ok (Unplug device)
 
--- the words of steps, none of which is a connection's name in a feed
+-- the first words of steps; none of them is a connection's name in a feed
 abbrev pub step_words : List (List ℕ × (Description → List (List ℕ) → Result Step Why))
 step_words =
     (codes "fire", trigger_step (λ t m. Fire t m))
@@ -89,7 +89,7 @@ step_words =
     ∷ (codes "unplug", unplug_step)
     ∷ []
 
--- a line from its first quote on
+-- a line from its first quote on, with that quote
 abbrev pub from_quote : List ℕ → List ℕ
 from_quote [] = []
 from_quote (b ∷ bs) = if b == 34 then b ∷ bs else from_quote bs
@@ -114,14 +114,14 @@ abbrev pub step_by : Description → List ℕ → List ℕ → List (List ℕ) �
 step_by desc line word words None = feed_step line word words
 step_by desc line word words (Some step) = step desc words
 
--- the step that a line with these words says; without a word it means nothing
+-- the step of a line with these words; a line without words is no step
 abbrev pub step_of_words : Description → List ℕ → List (List ℕ) → Result (Option Step) Why
 step_of_words desc line [] = Ok None
 step_of_words desc line (word ∷ words) = do
   step ← step_by desc line word words (entry_of step_words word)
   Ok (Some step)
 
--- the step that a line says; a comment, or a line without a word, means nothing
+-- the step of a line; a comment, or a line without words, is none
 abbrev pub step_of : Description → List ℕ → Result (Option Step) Why
 step_of desc line = do
   words ← words_of_line line
@@ -129,31 +129,31 @@ step_of desc line = do
 
 -- ---- the whole script
 
--- the most names of connections that a script may feed
+-- the maximum number of connection names that a script may feed
 abbrev pub max_names : ℕ
 max_names = MAX_NAMES
 
 abbrev pub is_known : List (List ℕ) → List ℕ → Bool
 is_known names name = list_any (λ known. bytes_eq known name) names
 
--- the names that were fed, once a step was made
+-- the names that have been fed after a step
 abbrev pub names_after : List (List ℕ) → Option Step → List (List ℕ)
 names_after names (Some (Feed name bytes)) = if is_known names name then names else name ∷ names
 names_after names step = names
 
--- whether a step leaves no more names than a script may feed
+-- whether the script has fed no more names than it may after a step
 abbrev pub keeps_names : List (List ℕ) → Option Step → Bool
 keeps_names names (Some (Feed name bytes)) = is_known names name || nat_lt (length names) max_names
 keeps_names names step = true
 
--- the step that a line says after feeds of these names: the last check is that of the number of names
+-- the step of a line after feeds of these names; the number of names is checked last
 abbrev pub step_after : Description → List (List ℕ) → List ℕ → Result (Option Step) Why
 step_after desc names line = do
   step ← step_of desc line
   ensure (keeps_names names step) why.Limit
   Ok step
 
--- how a script ends: with its last line, at a line that is refused, or where it is too long
+-- how a script ends: with its last line, at a line that is refused, or because it is too long
 pub data Ending : Type 0 where
   Finished : Ending
   Refused : (line : ℕ) (why : Why) → Ending
@@ -167,7 +167,7 @@ abbrev pub first_step : Option Step → Script → Script
 first_step None script = script
 first_step (Some step) script = record script { steps = step ∷ script.steps }
 
--- the script of these lines, the first of which has number n, after feeds of these names; `ending` is its end where no line
+-- the script of these lines, the first of which has number n, after feeds of these names; `ending` is how it ends if no line
 -- is refused
 abbrev pub script_from : Description → Ending → List (List ℕ) → ℕ → List (List ℕ) → Script
 script_from desc ending names n [] = record { steps = []; ending = ending }
@@ -176,7 +176,7 @@ script_from desc ending names n (line ∷ lines) = elim (step_after desc names l
   | Ok step ↦ first_step step (script_from desc ending (names_after names step) (n + 1) lines)
 ]
 
--- what the end prints
+-- what an ending prints
 abbrev pub ending_text : Ending → List ℕ
 ending_text Finished = []
 ending_text (Refused line why) = printed (codes "refused" ∷ decimal line ∷ why_text why ∷ [])

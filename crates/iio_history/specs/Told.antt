@@ -1,4 +1,4 @@
--- What stands after a history: the registry, with each member's private queue, and what each connection has begun.
+-- The state after a history: the registry, with each member's private queue, and what each connection has begun.
 use Rattle.std.specs.Prelude.{ℕ, ◌+◌, ◌/◌, List, [], ◌∷◌, ◌++◌, map, take, slice_get, Option, None, Some, if◌then◌else◌, ℤ}
 use Rattle.std.specs.Str.{bytes_eq}
 use Rattle.iio_layout.specs.Shape.{ShapeRecord}
@@ -22,14 +22,14 @@ use Rattle.iio_history.specs.Log.{membership_log}
 use Rattle.iio_history.specs.Queue.{MemberQueue, private_queue}
 use Rattle.iio_history.specs.Membership.{joinings_of, number_of, discarded_of}
 
--- a member with its number, its queue, and how many scans its REMASKs discarded
+-- a member with its number, its queue, and the number of scans that its REMASKs discarded
 pub record Seat : Type 0 where
   pub member : Member
   pub number : ℕ
   pub queue : MemberQueue
   pub discarded : ℕ
 
--- a device, how many have joined it, how many captures it made, what its queues gave and lost in all, and its members
+-- a device, the number of its joinings, the number of its captures, what its queues gave and lost in all, and its members
 pub record Station : Type 0 where
   pub kind : Kind
   pub shape : ShapeRecord
@@ -38,11 +38,11 @@ pub record Station : Type 0 where
   pub captures : ℕ
   pub totals : Totals
   pub site : Site Who
-  -- at an output device, element 0 of each channel in the last scan that it was given of it
+  -- at an output device: element 0 of each channel in the last scan given that has it
   pub last : List ℤ
   pub seats : List Seat
 
--- a connection, with what it sent that is not yet an item
+-- a connection, with what it sent that isn't a whole item yet
 pub record Line : Type 0 where
   pub user : ConnectionRecord
   pub begun : Scanner
@@ -73,18 +73,18 @@ abbrev pub captures_after : Act → ℕ → ℕ
 captures_after (Capturing c) n = n + 1
 captures_after act n = n
 
--- the scans that a READBUF of `bytes` bytes gives, by what waits for its member
+-- the scans that a READBUF of `bytes` bytes gives, out of those that wait for its member
 abbrev pub scans_given : ShapeRecord → Who → ℕ → List Seat → List (List ℕ)
 scans_given shape who bytes [] = []
 scans_given shape who bytes (x ∷ xs) =
     if same who x.member.who then take (bytes / scan_size shape x.member.mask) x.queue.scans else scans_given shape who bytes xs
 
--- queues of members end: what each has lost is counted
+-- members' queues end: what each has lost is counted
 abbrev pub with_gone : List Who → List Seat → Totals → Totals
 with_gone gone [] t = t
 with_gone gone (x ∷ xs) t = with_gone gone xs (if is_among x.member.who gone then with_lost x.queue.lost t else t)
 
--- what the queues of a device gave and lost in all, once an act was there; a REMASK ends its member's queue
+-- what the queues of a device gave and lost in all, after an act; a REMASK ends its member's queue
 abbrev pub totals_after : ShapeRecord → Act → List Seat → Totals → Totals
 totals_after shape (Reading who bytes) xs t = with_given (scans_given shape who bytes xs) t
 totals_after shape (Remasking m mask) xs t = with_gone (m.who ∷ []) xs t
@@ -110,7 +110,7 @@ stream_of name [] = []
 stream_of name (Arrived speaker bytes ∷ h) = if bytes_eq speaker name then stream_of name h ++ bytes else stream_of name h
 stream_of name (e ∷ h) = stream_of name h
 
--- what a stream has begun and not made whole
+-- what a stream has begun and not completed
 abbrev pub begun_of : List ℕ → Scanner
 begun_of stream = scanner_after (InLine []) stream
 
@@ -123,7 +123,7 @@ seat_told s h k shape m = record {
   discarded = discarded_of s m.who k h;
 }
 
--- how many captures device k made
+-- the number of captures that device k made
 abbrev pub captures_of : Setup → ℕ → List Event → ℕ
 captures_of s k [] = 0
 captures_of s k (e ∷ h) = captures_after (act_at s (registry_after s h) e k) (captures_of s k h)
@@ -136,7 +136,7 @@ totals_of s k (e ∷ h) = elim (slice_get (registry_after s h).devices k) [
   | Some d ↦ totals_after d.shape (act_of s (registry_after s h) e k d) (map (seat_told s h k d.shape) d.members) (totals_of s k h)
 ]
 
--- what was given last of each channel of device k
+-- the last value given of each channel of device k
 abbrev pub last_of : Setup → ℕ → List Event → List ℤ
 last_of s k [] = elim (slice_get (registry_first s).devices k) [ None ↦ [] | Some d ↦ first_last d.shape ]
 last_of s k (e ∷ h) = elim (slice_get (registry_after s h).devices k) [

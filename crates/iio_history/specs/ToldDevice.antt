@@ -1,4 +1,5 @@
--- The law that joins what isn't a connection's call, at an input device over any queue's end, to the device that the history gives.
+-- The law about all that isn't a connection's call, at an input device over any queue's end: the device's own view then is
+-- that of the device that the history gives.
 use Rattle.std.specs.Prelude.{◌≡◌, ℕ, ℤ, ◌-◌, ◌^◌, ◌≤◌, ◌==◌, false, List, [], slice_get, Some}
 use Rattle.iio_kfifo.specs.declared.tail.Offered.{Offered}
 use Rattle.iio_trigger.specs.Trigger.{Handed}

@@ -1,4 +1,4 @@
--- What the steps of a script print (this project's own).
+-- What the steps of a script print. (This project's own.)
 use Rattle.std.specs.Prelude.{ℕ, ℤ, ◌&&◌, not, List, [], ◌∷◌, ◌++◌, map, length, codes, Option, Some, None, slice_get, if◌then◌else◌}
 use Rattle.std.specs.Fmt.{decimal, signed_decimal}
 use Rattle.iio_text.specs.Escape.{quoted}
@@ -22,7 +22,7 @@ use Rattle.iio_history.specs.Reply.{reply}
 use Rattle.std.specs.Str.{bytes_eq}
 use Rattle.iio_trigger.specs.Trigger.{Handed}
 
--- triggers and devices go by their numbers in the description
+-- a step; triggers and devices are given by their numbers in the description
 pub data Step : Type 0 where
   Feed : (name : List ℕ) (bytes : List ℕ) → Step
   Fire : (trigger : ℕ) (moment : ℤ) → Step
@@ -43,12 +43,12 @@ line_named name (l ∷ ls) = if bytes_eq l.user.who name then Some l else line_n
 abbrev pub begun_by : List ℕ → List Line → Scanner
 begun_by name ls = elim (line_named name ls) [ None ↦ InLine [] | Some l ↦ l.begun ]
 
--- the entries that a poll makes, where it is accepted
+-- the entries that a poll makes, if it is accepted
 abbrev pub poll_entries : Told → ℕ → ℤ → List Handed
 poll_entries m trigger moment = if is_empty (entries_at m.triggers trigger) then entries_from 0 trigger moment (attachments_of (registry_of m)) else []
 
--- the events that a step stands for, the first of them first: a feed stands for the items that its bytes make whole, a fire
--- for a poll and, where that is accepted, for the handling of each entry that it made
+-- the events that a step stands for, the first of them first: a feed stands for the items that its bytes complete, a fire for
+-- a poll and, if that is accepted, for the handling of each entry that it made
 abbrev pub events_of_step : Told → Step → List Event
 events_of_step m (Feed name bytes) =
     if has_ended name (registry_of m).users then []
@@ -61,9 +61,9 @@ events_of_step m (SetClock moment) = Clock moment ∷ []
 events_of_step m (Drop name) = Dropped name ∷ []
 events_of_step m (Unplug device) = Unplugged device ∷ []
 
--- ---- what an event prints, by what stands before it
+-- ---- what an event prints, by the state before it
 
--- words with a space between
+-- words with spaces between them
 abbrev pub spaced : List (List ℕ) → List ℕ
 spaced [] = []
 spaced (w ∷ []) = w
@@ -122,7 +122,7 @@ event_text s m e = []
 
 -- ---- the lines of steps
 
--- the history with further events, the first of them first
+-- the history with further events, given with the first of them first
 abbrev pub and_then : List Event → List Event → List Event
 and_then h [] = h
 and_then h (e ∷ es) = and_then (e ∷ h) es
@@ -135,7 +135,7 @@ texts_after s h (e ∷ es) = event_text s (told s h) e ++ texts_after s (e ∷ h
 abbrev pub closed_line : List ℕ → List ℕ
 closed_line name = printed (name ∷ codes "closed" ∷ [])
 
--- a step's lines, where its events print that text; a feed says besides whether the connection has ended
+-- the lines of a step whose events print that text; those of a feed also say whether the connection has ended
 abbrev pub step_text : Told → Told → Step → List ℕ → List ℕ
 step_text before after (Feed name bytes) text =
     (if has_ended name (registry_of before).users then [] else printed (name ∷ quoted text ∷ []))
@@ -146,7 +146,7 @@ step_text before after step text = text
 abbrev pub with_step : Setup → List Event → Step → List Event
 with_step s h step = and_then h (events_of_step (told s h) step)
 
--- the history with steps, the first of them first
+-- the history with steps, given with the first of them first
 abbrev pub with_steps : Setup → List Event → List Step → List Event
 with_steps s h [] = h
 with_steps s h (t ∷ ts) = with_steps s (with_step s h t) ts

@@ -17,20 +17,20 @@ abbrev pub polled_words : Polled → List (List ℕ)
 polled_words (Accepted n) = codes "accepted" ∷ decimal n ∷ []
 polled_words (Missed n) = codes "missed" ∷ decimal n ∷ []
 
--- the word for a handled entry; `none` where there was no entry
+-- the word for a handled entry; `none` if there was no entry
 abbrev pub handled_word : Option Handled → List ℕ
 handled_word None = codes "none"
 handled_word (Some (Captured n)) = codes "captured"
 handled_word (Some Fault) = codes "fault"
 handled_word (Some Idle) = codes "idle"
 
--- of an output device's entry; it was given that scan
+-- the word for an output device's entry, which was given that scan
 abbrev pub gave_word : Giving → (scan : List ℕ) → List ℕ
 gave_word gave.Given scan = codes "given " ++ encode_lower scan
 gave_word gave.Underrun scan = codes "underrun"
 gave_word gave.Idle scan = codes "idle"
 
--- of a device's entry; what an output device was given stands in the room for it
+-- the word for a device's entry; `room` has the scan that an output device was given
 abbrev pub became_word : Option Became → (room : List ℕ) → List ℕ
 became_word None room = handled_word None
 became_word (Some (Asked handled)) room = handled_word (Some handled)

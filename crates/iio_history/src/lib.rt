@@ -1,4 +1,4 @@
-//! The history of the core, the plain state that it tells, and the laws that join the two, and that state and a session's.
+//! The history of the core, the plain state that it tells, and the laws that join these two, and that state to a session's.
 #![tactic(auto)]
 
 ghost use Rattle.iio_history.specs.Law.{StepIsTold, MachineIsTold, QueuesArePrivate, MembersAreApart, OutputHasOne, GivenIsWritten, InnerIsThere, InnerIsEmpty, PluggedIsBases, MeansAre, MeansAlone, OthersAreAbsent, PlayedIsTranscript, OutstandingIs, ReadingIsOne};
@@ -12,7 +12,7 @@ mod limits;
 use iio_kfifo::Tail;
 pub use limits::{MAX_INPUT_BYTES, MAX_NAMES};
 
-/// The plain machine carries what the history tells.
+/// The plain machine computes the state that the history tells.
 pub fn law()
     ensures step { StepIsTold }
     ensures machine { MachineIsTold }
@@ -32,7 +32,7 @@ pub fn law()
     ensures numbered { NumberedAreSteps }
 {}
 
-/// What a session sees of the told state, and what its connection has there, go with the history: item by item, and over
+/// What a session sees of the told state, and what its connection has there, agree with the history: item by item, and over
 /// whole feeds.
 pub fn bench_law()
     ensures first { FirstIsBench }
@@ -54,7 +54,7 @@ pub fn bench_law()
     ensures beside { FeedsKeepClients }
 {}
 
-/// What happens to the core besides, by what a session sees of the told state.
+/// What all other events do to the core, as a session sees the told state.
 pub fn move_law()
     ensures unplugging { UnpluggingIs }
     ensures clock { ClockIs }
@@ -64,8 +64,8 @@ pub fn move_law()
     ensures printed { MovesPrint }
 {}
 
-/// What an unplugging, a look and the handling of an entry make of a device's own view is what the history makes of the device,
-/// whatever ends of queues its members have.
+/// What an unplugging, a look at thresholds and the handling of an entry make of a device's own view is what the history
+/// makes of the device, for any ends of its members' queues.
 pub fn told_device_law<Q: Tail>()
     ensures ends { EndsAgree Q.lost Q.capacity }
     ensures looks { ToldLooksAgree Q.lost Q.capacity }

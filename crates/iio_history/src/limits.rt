@@ -1,7 +1,7 @@
-//! How much of a script is taken.
+//! Limits of a script.
 
-/// The most bytes of an input that are looked at.
+/// The maximum number of bytes of an input that are looked at.
 pub const MAX_INPUT_BYTES: usize = 67_108_864;
 
-/// The most names of connections that a script may feed.
+/// The maximum number of connection names that a script may feed.
 pub const MAX_NAMES: usize = 64;

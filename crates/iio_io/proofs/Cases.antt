@@ -1,4 +1,4 @@
--- What holds in each case of an answer holds of it.
+-- What holds in each case of a result holds of the result.
 use Rattle.std.proofs.Common.{◌≡◌, ◌≤◌, ℕ, Option, Some, None, Result, Ok, Err, IfSome, IfNone, IfOk, OnErr, arith}
 use Rattle.iio_base.specs.Faults.{Rose}
 use Rattle.iio_io.specs.declared.traits.Failed.{Failed}
@@ -20,7 +20,7 @@ pub any_err : {A E : Type 0} {P : Type 0} (r : Result A E) → P → OnErr r P
 any_err (Ok x) p = tt
 any_err (Err e) p = p
 
--- what a count of faults tells
+-- what a count of faults shows
 pub steady_of : {A : Type 0} (r : Result A Failed) (before after : ℕ) → CountsFault r before after → IfOk r (λ _. after ≡ before)
 steady_of (Ok x) before after c = c
 steady_of (Err e) before after c = tt

@@ -1,24 +1,24 @@
--- What stays told over several reads or writes.
+-- What stays visible over several reads or writes.
 use Rattle.std.proofs.Common.{◌≡◌, ℕ, ◌+◌, ◌≤◌, List, [], ◌++◌, length, take, drop, Option, Some, None, IfSome, IfNone, sym, ap, ◌∙◌, subst, arith, append_assoc}
 use Rattle.std.proofs.Math.Seq.{take-add}
 use Rattle.std.proofs.lemmas.List.{drop-drop, length-drop, length-take-le, take-append-le, take-take, take_all, drop_all}
 use Rattle.iio_io.specs.Bytes.{Takes, TakesUpTo}
 
--- where the bytes written are told, those after `before` are the first `done` of `bytes`
+-- if the bytes written are visible, those after `before` are the first `done` of `bytes`
 abbrev pub WroteSoFar : Option (List ℕ) → List ℕ → ℕ → Option (List ℕ) → Type 0
 WroteSoFar before bytes done mid = IfSome before (λ xs. mid ≡ Some (xs ++ take done bytes))
 
--- where the bytes left are told, the first `n` of them are `items`, and the others are left
+-- if the bytes left are visible, the first `n` of them are `items`, and the others are left
 abbrev pub ReadSoFar : Option (List ℕ) → List ℕ → ℕ → Option (List ℕ) → Type 0
 ReadSoFar before items n mid = IfSome before (λ xs. (items ≡ take n xs) × (mid ≡ Some (drop n xs)) × (n ≤ length xs))
 
--- what isn't told stays so
+-- what isn't visible stays so
 pub silent_more : (before mid after : Option (List ℕ)) → IfNone before (mid ≡ None) → IfNone mid (after ≡ None)
     → IfNone before (after ≡ None)
 silent_more None mid after h k = subst (λ (m : Option (List ℕ)). IfNone m (after ≡ None)) h k
 silent_more (Some xs) mid after h k = tt
 
--- a write more, of the `piece` bytes from `done` on
+-- another write, of the `piece` bytes from `done` on
 pub WroteSoFar-more : (before mid after : Option (List ℕ)) (bytes : List ℕ) (done n piece : ℕ)
     → WroteSoFar before bytes done mid → n ≤ piece
     → IfSome mid (λ ys. after ≡ Some (ys ++ take n (take piece (drop done bytes))))
@@ -30,7 +30,7 @@ WroteSoFar-more (Some xs) mid after bytes done n piece h few k =
     wrote ∙ ap Some (ap (λ ys. (xs ++ take done bytes) ++ ys) rest ∙ append_assoc xs (take done bytes) (take n (drop done bytes))
     ∙ ap (λ ys. xs ++ ys) (sym (take-add done n bytes)))
 
--- a read more, into the front `piece` of a longer one
+-- another read, into the front `piece` of a longer one
 pub ReadSoFar-more : (before mid after : Option (List ℕ)) (items piece unread items' : List ℕ) (n k n' : ℕ)
     → ReadSoFar before items n mid → k ≤ length piece → IfSome mid (λ ys. Takes ys piece k after)
     → items' ≡ items ++ take k (piece ++ unread) → n' ≡ n + length (take k (piece ++ unread))
@@ -46,7 +46,7 @@ ReadSoFar-more (Some xs) mid after items piece unread items' n k n' h le t e m =
       omega (arith, h.2, taken.enough, count),
     )
 
--- what was read up to the limit is all up to it
+-- what was read up to the limit is all there is up to it
 pub TakesUpTo-full : (before mid last : Option (List ℕ)) (items : List ℕ) (n most : ℕ)
     → ReadSoFar before items n mid → most ≡ n → last ≡ mid → IfSome before (λ xs. TakesUpTo xs most items last)
 TakesUpTo-full None mid last items n most h e same = tt
@@ -55,7 +55,7 @@ TakesUpTo-full (Some xs) mid last items n most h e same = record {
   rest = same ∙ rw e h.1;
 }
 
--- and so is what was read to the end
+-- what was read to the end is all there is up to the limit
 pub TakesUpTo-end : (before mid after last : Option (List ℕ)) (items piece : List ℕ) (n k most : ℕ)
     → ReadSoFar before items n mid → n ≤ most → k ≡ 0 → IfSome mid (λ ys. Takes ys piece k after) → IfSome mid (λ ys. ys ≡ [])
     → last ≡ after → IfSome before (λ xs. TakesUpTo xs most items last)

@@ -19,7 +19,7 @@ pub record TakesAtMost (before : List ℕ) (most : ℕ) (after : Option (List �
   pub within : count ≤ most
   pub rest : after ≡ Some (drop count before)
 
--- of `bytes` a front part was written after `before`, and not all. `after` stands written then
+-- a front part of `bytes`, but not all of it, was appended to `before`. `after` is what is written then
 pub record WritesPart (before bytes : List ℕ) (after : Option (List ℕ)) : Type 0 where
   pub count : ℕ
   pub short : count < length bytes

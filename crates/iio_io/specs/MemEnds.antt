@@ -3,8 +3,8 @@ use Rattle.std.specs.Prelude.{◌≡◌, ◌↔◌, ◌⊎◌, ℕ, ◌+◌, ◌
 use Rattle.iio_io.specs.declared.traits.Failed.{Failed}
 use Rattle.iio_io.specs.Memory.{Feed, Store, IsFull, IsListed, one_more}
 
--- a read into `out`, which is `into` then: it fails exactly at a listed call; else it gives what there is, up to
--- the piece and to the room
+-- a read into `out`, which is `into` then: it fails exactly if the call is listed; otherwise it gives what is left, up to the
+-- piece and to the room
 pub record MemReads (old : Feed) (out : List ℕ) (result : Result ℕ Failed) (new : Feed) (into : List ℕ) : Type 0 where
   pub piece : 1 ≤ old.piece
   pub fails : IsErr result ↔ IsListed old.fails old.calls
@@ -14,7 +14,7 @@ pub record MemReads (old : Feed) (out : List ℕ) (result : Result ℕ Failed) (
   pub err : OnErr result (new ≡ record old { calls = one_more old.calls; faults = old.faults + 1 })
   pub untouched : OnErr result (into ≡ out)
 
--- a write of `bytes`: it fails exactly at a listed call and where no room is left; else it takes what there is room for
+-- a write of `bytes`: it fails exactly if the call is listed or no room is left; otherwise it takes what there is room for
 pub record MemWrites (old : Store) (bytes : List ℕ) (result : Result ℕ Failed) (new : Store) : Type 0 where
   pub room : length old.written ≤ old.room
   pub fails : IsErr result ↔ (IsListed old.fails old.calls ⊎ IsFull old)

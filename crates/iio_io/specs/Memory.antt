@@ -27,6 +27,6 @@ IsFull s = length s.written ≡ s.room
 abbrev pub IsListed : List ℕ → ℕ → Type 0
 IsListed fails calls = (calls + 1 < 2 ^ 64) × Contains fails (calls + 1)
 
--- one call more. The count stays at its type's end
+-- with another call. The count stays at its type's end
 abbrev pub one_more : ℕ → ℕ
 one_more calls = min (calls + 1) (2 ^ 64 - 1)

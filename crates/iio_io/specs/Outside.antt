@@ -4,7 +4,7 @@ use Rattle.std.specs.Prelude.{◌≡◌, ◌↔◌, ℕ, ◌+◌, ◌-◌, ◌�
 use Rattle.iio_io.specs.declared.traits.Failed.{Failed}
 use Rattle.iio_io.specs.Memory.{IsListed, one_more}
 
--- a count of faults that rises by one where the call failed, and stays where it didn't
+-- a count of faults rises by one if the call failed, and stays otherwise
 abbrev pub CountsFault : {A : Type 0} → Result A Failed → ℕ → ℕ → Type 0
 CountsFault result before after = MatchResult result (λ _. after ≡ before) (λ _. after ≡ before + 1)
 
@@ -26,7 +26,7 @@ pub record Links (L : Type 0) : Type 0 where
   pub calls : ℕ
   pub faults : ℕ
 
--- a call at a door over a list: it fails exactly where it is listed, and leaves the links then
+-- a call at a door over a list: it fails exactly if it is listed, and then leaves the links as they are
 pub record CallsDoor {L : Type 0} {A : Type 0} (old : Links L) (result : Result A Failed) (new : Links L) : Type 0 where
   pub fails : IsErr result ↔ IsListed old.fails old.calls
   pub ok : IfOk result (λ _. new ≡ record old { left = new.left; calls = one_more old.calls })

@@ -8,14 +8,13 @@ use std::sync::atomic::{AtomicBool, Ordering};
 use std::thread;
 use std::time::{Clock, Duration, Instant};
 
-// Nanoseconds of a millisecond.
+// Nanoseconds in a millisecond.
 const MILLI: u64 = 1_000_000;
 
-/// A ticker that waits for each moment on a clock that doesn't go back. Its ticks come each period from the
-/// start on, the first one period after it, and a tick's moment is its number times the period. One that is
-/// taken late is given at once and shifts none after it; of those that were missed meanwhile only the last is
-/// given. It ends at the first moment after `stop` was set, where the clock can't be read, and where the moment
-/// is past 2^63 - 1.
+/// A ticker that waits for each moment on a clock that doesn't go back. A tick comes each period from the start on, the first
+/// one period after it, and a tick's moment is its number times the period. A tick that is taken late is returned at once and
+/// delays none after it; of those that were missed meanwhile only the last is returned. The ticker ends at the first moment
+/// after `stop` was set, if the clock can't be read, and if the moment is past 2^63 - 1.
 #[derive(Drop)]
 pub struct ClockTicker<'a, R> {
     clock: R,
@@ -34,7 +33,7 @@ impl<'a, R> Model for ClockTicker<'a, R> {
 }
 
 impl<'a, R: Clock> ClockTicker<'a, R> {
-    /// A ticker of `period` milliseconds from `start` on. Without a start, and with a period of 0, it has no tick.
+    /// Makes a ticker of `period` milliseconds from `start` on. Without a start, and with a period of 0, it has no tick.
     pub fn new(
         clock: R,
         stop: &'a AtomicBool,
@@ -52,7 +51,7 @@ impl<'a, R: Clock> ClockTicker<'a, R> {
         }
     }
 
-    // Waits for the moment, and answers whether the ticker goes on.
+    // Waits for the moment. Returns whether the ticker goes on.
     fn wait_until(&self, moment: u64, now: u64) -> bool {
         if moment > now && !self.stop.load(Ordering::SeqCst) {
             thread::sleep(&self.clock, Duration::from_nanos(moment - now));
@@ -85,8 +84,8 @@ impl<'a, R: Clock> Ticker for ClockTicker<'a, R> {
     }
 }
 
-// The number of the tick that comes after `ticks` others: the next one, or the last that has come by `now`
-// where that is later. `None` is a period of 0, or no number that is left.
+// The number of the tick that comes after `ticks` others: the next one, or the last that has come by `now` if that is later.
+// Returns `None` if the period is 0, or if no number is left.
 fn next_tick(ticks: u64, now: u64, period: u64) -> Option<u64>
     ensures { IfSome result (λ tick. tick ≡ max (ticks + 1) (now / period)) }
 {

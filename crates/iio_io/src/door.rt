@@ -11,13 +11,13 @@ use crate::traits::Failed;
 pub trait Door {
     type L: Link + Send + Drop;
 
-    // how many connections are left, where the door tells it
+    // how many connections are left, if that is visible
     ghost left: { Self → Option ℕ };
 
     // how many calls failed so far
     ghost faults: { Self → ℕ };
 
-    /// Gives the next connection. `None` is the door's end, and comes only where none is left.
+    /// Returns the next connection. `None` is the door's end, and is returned only if no connection is left.
     fn next(&mut self) -> Result<Option<Self::L>, Failed>
         ensures given { IfOk result
             (λ link. IfSome link (λ _. IfSome (left self.old) (λ n. TakesOne n (left self.new)))) }
@@ -41,16 +41,16 @@ pub trait Listen: Door {
         ensures counted { Self.faults self.old ≤ Self.faults self.new }
         ensures failed { OnErr result (Rose (Self.faults self.old) (Self.faults self.new)) };
 
-    /// Gives the ticker of a trigger that is polled each `period` milliseconds.
+    /// Returns the ticker of a trigger that is polled each `period` milliseconds.
     fn ticker(&self, period: u32) -> Self::T;
 }
 
 /// What gives the moments of a trigger.
 pub trait Ticker {
-    // the moments that are left, where the ticker tells them
+    // the moments that are left, if they are visible
     ghost moments: { Self → Option (List ℤ) };
 
-    /// Gives the next moment, in nanoseconds, when it has come. `None` is the end.
+    /// Returns the next moment, in nanoseconds, once it has come. `None` is the end.
     fn next(&mut self) -> Option<i64>
         ensures next { IfSome result
             (λ t. IfSome (moments self.old) (λ ts. TakesFirst ts t (moments self.new))) }

@@ -11,7 +11,7 @@ pub enum Point {
 
 /// What can hold a connection at a point.
 pub trait Gate {
-    /// Returns when the connection may go on.
+    /// Returns once the connection may go on.
     fn pass(&self, point: Point);
 }
 

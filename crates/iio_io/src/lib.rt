@@ -1,9 +1,9 @@
 //! The outside: bytes that are read and written, connections and where they come from, and moments.
 //!
-//! A `Source`, a `Sink` and a `Link` tell, where they know it, which bytes are left and which were written,
-//! a `Door` how many connections are left, and a `Ticker` which moments. Each but the ticker keeps a count of its
-//! faults that never falls. All are this project's own, as read(2), write(2) and accept(2) are used by iiod. The
-//! forms in memory tell all of it; those over the system's streams, sockets and clock tell none.
+//! Of a `Source`, a `Sink` and a `Link` contracts know, if it is visible, which bytes are left and which were written, of a
+//! `Door` how many connections are left, and of a `Ticker` which moments. Each but the ticker keeps a count of its faults that
+//! never falls. All are this project's own, as read(2), write(2) and accept(2) are used by iiod. In the forms in memory all of
+//! it is visible; in those over the system's streams, sockets and clock none of it is.
 #![tactic(auto)]
 
 mod clock_ticker;

@@ -8,17 +8,17 @@ use crate::traits::Failed;
 
 /// A source and a sink of bytes, with one count of faults for both directions.
 pub trait Link {
-    // the bytes that are left to be received, where the link tells them
+    // the bytes that are left to be received, if they are visible
     ghost left: { Self → Option (List ℕ) };
 
-    // the bytes that were sent so far, where the link tells them
+    // the bytes that were sent so far, if they are visible
     ghost written: { Self → Option (List ℕ) };
 
     // how many calls failed so far
     ghost faults: { Self → ℕ };
 
-    /// Receives some bytes into the front of `out`, and answers how many. 0 for an `out` with room is
-    /// the end. What was sent stays as it is.
+    /// Receives some bytes into the front of `out`, and returns how many. 0 for a nonempty `out` is the end. What was sent
+    /// stays as it is.
     fn recv(&mut self, out: &mut [u8]) -> Result<usize, Failed>
         ensures fits { IfOk result (λ n. n ≤ length out.new) }
         ensures next { IfOk result
@@ -32,8 +32,8 @@ pub trait Link {
         ensures failed { OnErr result (Rose (faults self.old) (faults self.new)) }
         ensures kept { OnErr result (left self.new ≡ left self.old) };
 
-    /// Sends some bytes from the front of `bytes`, and answers how many: at least one, unless there
-    /// are none. What is left to be received stays as it is.
+    /// Sends some bytes from the front of `bytes`, and returns how many: at least one, unless `bytes` is empty. What is left to
+    /// be received stays as it is.
     fn send(&mut self, bytes: &[u8]) -> Result<usize, Failed>
         ensures fits { IfOk result (λ n. n ≤ length bytes.now) }
         ensures appended { IfOk result (λ n. IfSome (written self.old)
@@ -49,8 +49,8 @@ pub trait Link {
 
 /// A link that can be begun from here.
 pub trait Dial: Link {
-    /// Begins the connection at an address, `HOST:PORT`. What the link tells of the bytes that are left
-    /// and of those that were sent stays as it is.
+    /// Begins the connection at an address, `HOST:PORT`. What is visible of the bytes that are left and of those that were sent
+    /// stays as it is.
     fn dial(&mut self, address: &str) -> Result<(), Failed>
         ensures left { Self.left self.new ≡ Self.left self.old }
         ensures written { Self.written self.new ≡ Self.written self.old }

@@ -31,7 +31,7 @@ impl<L> Model for ListDoor<L> {
 }
 
 impl<L> ListDoor<L> {
-    /// A door of these links. No call was made yet.
+    /// Makes a door of these links. No call was made yet.
     pub fn new(links: Vec<L>, fails: Vec<u64>) -> ListDoor<L>
         ensures { result ≡ record { left = links.items; fails = fails.items; calls = 0; faults = 0 } }
     {
@@ -43,7 +43,7 @@ impl<L> ListDoor<L> {
         }
     }
 
-    // Counts a call, and fails where it is listed.
+    // Counts a call, and fails if it is listed.
     fn call(&mut self) -> Result<(), Failed>
         ensures call { CallsDoor self.old result self.new }
         ensures left { self.new.left ≡ self.old.left }

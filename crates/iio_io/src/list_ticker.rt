@@ -22,7 +22,7 @@ impl Model for ListTicker {
 }
 
 impl ListTicker {
-    /// A ticker of these moments, in nanoseconds.
+    /// Makes a ticker of these moments, in nanoseconds.
     pub fn new(moments: Vec<i64>) -> ListTicker
         ensures { result ≡ moments.items }
     {

@@ -7,8 +7,7 @@ use crate::link::{Dial, Link};
 use crate::memory::{MemSink, MemSource};
 use crate::traits::{Failed, Sink, Source};
 
-/// A link in memory, for tests: it receives as its source reads, and sends as its sink writes. Its faults
-/// are those of both.
+/// A link in memory, for tests: it receives from its source, and sends to its sink. Its faults are those of both.
 #[derive(Drop)]
 pub struct MemLink {
     source: MemSource,
@@ -16,7 +15,7 @@ pub struct MemLink {
 }
 
 impl MemLink {
-    /// A link of these two ends, as they are.
+    /// Makes a link of these two ends, as they are.
     pub fn new(source: MemSource, sink: MemSink) -> MemLink
         ensures { result ≡ record { source = source; sink = sink } }
     {

@@ -9,8 +9,7 @@ use iio_base::{Count, Mem};
 use std::alloc::Global;
 use std::marker::Model;
 
-/// A source over bytes in memory. It gives at most `piece` bytes a call, and fails at the listed
-/// calls, counted from 1.
+/// A source over bytes in memory. Each call gives at most `piece` bytes, and the listed calls fail, counted from 1.
 #[derive(Drop)]
 pub struct MemSource {
     bytes: Vec<u8>,
@@ -33,7 +32,7 @@ impl Model for MemSource {
 }
 
 impl MemSource {
-    /// A source that gives `bytes`. No call was made yet.
+    /// Makes a source that gives `bytes`. No call was made yet.
     pub fn new(bytes: Vec<u8>, piece: usize, fails: Vec<u64>) -> MemSource
         requires { 1 ≤ piece }
         ensures { result ≡ record {
@@ -87,8 +86,8 @@ impl Source for MemSource {
     }
 }
 
-/// A sink in memory that takes at most `room` bytes in all. It fails at the listed calls, counted from
-/// 1, and where no room is left.
+/// A sink in memory that takes at most `room` bytes in all. It fails at the listed calls, counted from 1, and if no room is
+/// left.
 #[derive(Drop)]
 pub struct MemSink {
     bytes: Vec<u8>,
@@ -112,7 +111,7 @@ impl Model for MemSink {
 impl MemSink {
     ghost use Rattle.std.specs.Prelude.{[], IfOk};
 
-    /// A sink with nothing written. All memory that it ever takes is taken here.
+    /// Makes a sink with nothing written. All memory that it ever takes is taken here.
     pub fn new(alloc: Global, room: usize, fails: Vec<u64>) -> Result<MemSink, Mem>
         ensures { IfOk result (λ s. s ≡ record {
           written = [];
@@ -139,7 +138,7 @@ impl MemSink {
         self.bytes.as_slice()
     }
 
-    /// How often a write failed. The number stays at 2^64 - 1 when it gets there.
+    /// How often a write failed, but at most 2^64 - 1.
     pub fn faults(&self) -> u64
         ensures { result ≡ min self.now.faults (2 ^ 64 - 1) }
     {

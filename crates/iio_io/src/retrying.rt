@@ -11,7 +11,7 @@ use std::io::{ErrorKind, Read, Write};
 // How often a read or a write that a signal cut short is tried.
 const TRIES: usize = 64;
 
-// One read, tried again where a signal cut it short. A failure takes no byte.
+// Reads once, and again if a signal cut the read short. A failure takes no byte.
 #[tactic(auto, using(crate::proofs::Kept::keeps_refl, crate::proofs::Kept::keeps_trans, crate::proofs::Kept::kept_consumes))]
 pub(crate) fn read_retrying<R: Read>(
     input: &mut R,
@@ -36,7 +36,7 @@ pub(crate) fn read_retrying<R: Read>(
     Err(Failed)
 }
 
-// One write, tried again where a signal cut it short. A failure adds no byte.
+// Writes once, and again if a signal cut the write short. A failure adds no byte.
 #[tactic(auto, using(crate::proofs::Kept::keeps_refl, crate::proofs::Kept::keeps_trans, crate::proofs::Kept::kept_appends))]
 pub(crate) fn write_retrying<W: Write>(
     output: &mut W,

@@ -1,5 +1,5 @@
-//! Standard input and standard output, or whatever else is handed in to be read from and written to. They tell no
-//! content as a source and a sink: nothing is known of what the system gives or takes.
+//! Standard input and standard output, or whatever else is handed in to be read from and written to. As a source and a sink
+//! their content isn't visible: nothing is known of what the system gives or takes.
 
 ghost use Rattle.std.specs.Prelude.{◌≡◌, ◌+◌, ◌-◌, ◌^◌, ◌<◌, ◌≤◌, min, length, IfOk, MatchResult};
 ghost use Rattle.std.specs.Io.KnownBytes.{ReadConsumes, WriteAppends};
@@ -10,8 +10,8 @@ use crate::traits::{Failed, Sink, Source};
 use iio_base::Count;
 use std::io::{Read, Write};
 
-/// A source over a reader, as standard input, with its count of failed reads. A read that a signal cut short
-/// is tried again.
+/// A source over a reader, such as standard input, with its count of failed reads. A read that a signal cut short is tried
+/// again.
 #[derive(Drop)]
 pub struct StdSource<R> {
     input: R,
@@ -19,7 +19,7 @@ pub struct StdSource<R> {
 }
 
 impl<R: Read> StdSource<R> {
-    /// A source over the process's input, of which no read failed yet.
+    /// Makes a source over the process's input, of which no read failed yet.
     pub fn new(input: R) -> StdSource<R>
         ensures { result ≡ record { input = input; faults = 0 } }
     {
@@ -29,7 +29,7 @@ impl<R: Read> StdSource<R> {
         }
     }
 
-    /// How often a read failed. The number stays at 2^64 - 1 when it gets there.
+    /// How often a read failed, but at most 2^64 - 1.
     pub fn faults(&self) -> u64
         ensures { result ≡ min self.now.faults (2 ^ 64 - 1) }
     {
@@ -53,8 +53,8 @@ impl<R: Read> Source for StdSource<R> {
     }
 }
 
-/// A sink over a writer, as standard output, with its count of failed writes. Nothing is held back: each write
-/// goes to the system at once. A write that a signal cut short is tried again.
+/// A sink over a writer, such as standard output, with its count of failed writes. Nothing is held back: each write goes to the
+/// system at once. A write that a signal cut short is tried again.
 #[derive(Drop)]
 pub struct StdSink<W> {
     output: W,
@@ -62,7 +62,7 @@ pub struct StdSink<W> {
 }
 
 impl<W: Write> StdSink<W> {
-    /// A sink over the process's output, of which no write failed yet.
+    /// Makes a sink over the process's output, of which no write failed yet.
     pub fn new(output: W) -> StdSink<W>
         ensures { result ≡ record { output = output; faults = 0 } }
     {
@@ -72,7 +72,7 @@ impl<W: Write> StdSink<W> {
         }
     }
 
-    /// How often a write failed. The number stays at 2^64 - 1 when it gets there.
+    /// How often a write failed, but at most 2^64 - 1.
     pub fn faults(&self) -> u64
         ensures { result ≡ min self.now.faults (2 ^ 64 - 1) }
     {

@@ -14,8 +14,8 @@ use std::net::{Net, OpenListener, SocketAddr, TcpListener, TcpStream};
 use std::sync::atomic::{AtomicBool, Ordering};
 use std::time::{Clock, Instant};
 
-/// A door on a TCP port. Its tickers count from the moment at which it was opened. Where `stop` is set it ends
-/// at the next connection, which it closes unheard, and its tickers at their next moment.
+/// A door on a TCP port. Its tickers count from the moment at which it was opened. If `stop` is set, the door ends at the next
+/// connection, which it closes unheard, and its tickers end at their next moment.
 #[derive(Drop)]
 pub struct TcpDoor<'a, R> {
     rt: R,
@@ -26,7 +26,7 @@ pub struct TcpDoor<'a, R> {
 }
 
 impl<'a, R: Net<Stream = TcpStream, Listener = TcpListener> + Clock> TcpDoor<'a, R> {
-    /// A door that isn't open. Each `next` fails until `listen` has answered `Ok`.
+    /// Makes a door that isn't open. Each `next` fails until `listen` has returned `Ok`.
     pub fn new(rt: R, stop: &'a AtomicBool) -> TcpDoor<'a, R>
         ensures faults { result.faults ≡ 0 }
         ensures closed { result.listener ≡ None }
@@ -40,7 +40,7 @@ impl<'a, R: Net<Stream = TcpStream, Listener = TcpListener> + Clock> TcpDoor<'a,
         }
     }
 
-    /// The address at which the door is open, with the port that the system chose where it was opened at port 0.
+    /// The address at which the door is open, with the port that the system chose if the door was opened at port 0.
     pub fn address(&self) -> Option<SocketAddr>
         ensures closed { self.now.listener ≡ None → result ≡ None }
     {
@@ -50,7 +50,7 @@ impl<'a, R: Net<Stream = TcpStream, Listener = TcpListener> + Clock> TcpDoor<'a,
         }
     }
 
-    /// How many calls failed. The number stays at 2^64 - 1 when it gets there.
+    /// How many calls failed, but at most 2^64 - 1.
     pub fn faults(&self) -> u64
         ensures { result ≡ min self.now.faults (2 ^ 64 - 1) }
     {
@@ -98,7 +98,7 @@ impl<'a, R: Net<Stream = TcpStream, Listener = TcpListener> + Clock + Copy + Sen
     for TcpDoor<'a, R> {
     type T = ClockTicker<'a, R>;
 
-    // A port at which the door is open is closed first. Where this fails the door isn't open.
+    // A port at which the door is open is closed first. If this fails, the door isn't open.
     fn listen(&mut self, address: &str) -> Result<(), Failed>
         ensures open { IfOk result (λ _. IsSome self.new.listener) }
         ensures closed { OnErr result (self.new.listener ≡ None) }
@@ -125,7 +125,7 @@ impl<'a, R: Net<Stream = TcpStream, Listener = TcpListener> + Clock + Copy + Sen
     }
 }
 
-// The next connection of a listener. `None` where `stop` is set, before or after it.
+// Accepts the next connection of a listener. Returns `None` if `stop` is set, before or after that.
 fn accept_unless<L: OpenListener>(
     listener: &L,
     stop: &AtomicBool,
@@ -140,8 +140,8 @@ fn accept_unless<L: OpenListener>(
     Ok(Some(stream))
 }
 
-/// The next connection of a listener, for a door over it. One that went away before it was taken is passed over; any other
-/// error is a failure.
+/// Accepts the next connection of a listener, for a door over it. A connection that went away before it was accepted is passed
+/// over; any other error is a failure.
 pub fn accept<L: OpenListener>(listener: &L) -> Result<L::Stream, Failed> {
     for _ in 0..u64::MAX {
         match listener.accept() {
@@ -156,7 +156,7 @@ pub fn accept<L: OpenListener>(listener: &L) -> Result<L::Stream, Failed> {
     Err(Failed)
 }
 
-// Whether an accept failed by its connection alone, so that the next may be taken (accept(2), "Error handling").
+// Whether an accept failed because of its connection alone, so that the next may be taken (accept(2), "Error handling").
 fn is_gone(kind: ErrorKind) -> bool {
     matches!(
         kind,

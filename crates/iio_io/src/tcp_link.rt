@@ -11,9 +11,9 @@ use iio_base::Count;
 use std::io::{Read, Write};
 use std::net::{Net, OpenStream, TcpStream};
 
-/// A link over a TCP stream, dialled or accepted. It tells no content. A call that a signal cut short is tried
-/// again, and what is sent goes out at once, however little it is. A peer that went away fails a send, and is
-/// the end of what is received, or a failure where it reset the connection; no signal is raised.
+/// A link over a TCP stream, dialled or accepted. Its content isn't visible. A call that a signal cut short is tried again, and
+/// what is sent goes out at once, however little it is. If the peer went away, a send fails, and a receive finds the end, or
+/// fails if the peer reset the connection; no signal is raised.
 #[derive(Drop)]
 pub struct TcpLink<N, S = TcpStream> {
     net: N,
@@ -22,7 +22,7 @@ pub struct TcpLink<N, S = TcpStream> {
 }
 
 impl<N: Net<Stream = S>, S: Read + Write + OpenStream + Drop> TcpLink<N, S> {
-    /// A link that isn't dialled. Each `recv` and `send` fails until `dial` has answered `Ok`.
+    /// Makes a link that isn't dialled. Each `recv` and `send` fails until `dial` has returned `Ok`.
     pub fn new(net: N) -> TcpLink<N, S>
         ensures { result ≡ record { net = net; stream = None; faults = 0 } }
     {
@@ -33,11 +33,11 @@ impl<N: Net<Stream = S>, S: Read + Write + OpenStream + Drop> TcpLink<N, S> {
         }
     }
 
-    // A link over a stream that is connected, of which no call failed yet.
+    // Makes a link over a stream that is connected, of which no call failed yet.
     pub(crate) fn over(net: N, stream: S) -> TcpLink<N, S>
         ensures { result ≡ record { net = net; stream = Some stream; faults = 0 } }
     {
-        // Without this the system may hold a short answer back; the link serves all the same.
+        // Without this the system may hold a short answer back; the link works all the same.
         let _ = stream.set_nodelay(true);
         TcpLink {
             net,
@@ -46,7 +46,7 @@ impl<N: Net<Stream = S>, S: Read + Write + OpenStream + Drop> TcpLink<N, S> {
         }
     }
 
-    /// How many calls failed. The number stays at 2^64 - 1 when it gets there.
+    /// How many calls failed, but at most 2^64 - 1.
     pub fn faults(&self) -> u64
         ensures { result ≡ min self.now.faults (2 ^ 64 - 1) }
     {
@@ -99,7 +99,7 @@ impl<N: Net<Stream = S>, S: Read + Write + OpenStream + Drop> Link for TcpLink<N
 }
 
 impl<N: Net<Stream = S>, S: Read + Write + OpenStream + Drop> Dial for TcpLink<N, S> {
-    // The connection that the link had is closed first. Where this fails the link isn't dialled.
+    // A connection that the link had is closed first. If this fails, the link isn't dialled.
     fn dial(&mut self, address: &str) -> Result<(), Failed>
         ensures dialled { IfOk result (λ _. IsSome self.new.stream) }
         ensures closed { OnErr result (self.new.stream ≡ None) }

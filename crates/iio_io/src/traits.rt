@@ -21,14 +21,13 @@ impl Error for Failed {}
 
 /// What bytes are read from.
 pub trait Source {
-    // the bytes that are left, where the source tells them
+    // the bytes that are left, if they are visible
     ghost left: { Self → Option (List ℕ) };
 
     // how many reads failed so far
     ghost faults: { Self → ℕ };
 
-    /// Reads some bytes into the front of `out`, and answers how many. 0 for an `out` with room is
-    /// the end.
+    /// Reads some bytes into the front of `out`, and returns how many. 0 for a nonempty `out` is the end.
     fn read(&mut self, out: &mut [u8]) -> Result<usize, Failed>
         ensures fits { IfOk result (λ n. n ≤ length out.new) }
         ensures next { IfOk result
@@ -44,14 +43,13 @@ pub trait Source {
 
 /// What bytes are written to.
 pub trait Sink {
-    // the bytes that were written so far, where the sink tells them
+    // the bytes that were written so far, if they are visible
     ghost written: { Self → Option (List ℕ) };
 
     // how many writes failed so far
     ghost faults: { Self → ℕ };
 
-    /// Writes some bytes from the front of `bytes`, and answers how many: at least one, unless
-    /// there are none.
+    /// Writes some bytes from the front of `bytes`, and returns how many: at least one, unless `bytes` is empty.
     fn write(&mut self, bytes: &[u8]) -> Result<usize, Failed>
         ensures fits { IfOk result (λ n. n ≤ length bytes.now) }
         ensures appended { IfOk result (λ n. IfSome (written self.old)

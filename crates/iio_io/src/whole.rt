@@ -1,4 +1,4 @@
-//! Whole texts over sources, sinks and links that take and give pieces.
+//! Reads and writes of whole texts over sources, sinks and links, which give and take pieces.
 
 ghost use Rattle.std.specs.Prelude.{◌≡◌, ◌+◌, ◌<◌, ◌≤◌, ◌^◌, ◌++◌, Some, None, IfSome, IfNone, IfOk, OnOk, OnErr, vec_len};
 ghost use Rattle.iio_base.specs.Faults.{Rose};
@@ -10,10 +10,10 @@ use std::alloc::{AllocError, Global};
 use std::error::Error;
 use std::fmt;
 
-// Most bytes that one read or one write asks for: what a pipe holds.
+// The most bytes that one read or one write asks for: what a pipe holds.
 const PIECE: usize = 65_536;
 
-/// Why `read_whole` gave no text.
+/// Why `read_whole` returned no text.
 #[derive(Clone, Copy, Debug, PartialEq, Eq, Hash)]
 pub enum ReadEnd {
     /// A read failed.
@@ -53,7 +53,7 @@ impl From<AllocError> for ReadEnd {
     }
 }
 
-/// Writes all of `bytes`, in pieces of at most 65,536 bytes and in as many writes as it takes. Where a write fails, a front
+/// Writes all of `bytes`, in pieces of at most 65,536 bytes and in as many writes as it takes. If a write fails, only a front
 /// part was written.
 pub fn write_whole<K: Sink>(sink: &mut K, bytes: &[u8]) -> Result<(), Failed>
     ensures whole { OnOk result (IfSome (K.written sink.old)
@@ -73,7 +73,7 @@ pub fn write_whole<K: Sink>(sink: &mut K, bytes: &[u8]) -> Result<(), Failed>
     Ok(())
 }
 
-/// Sends all of `bytes`, in as many sends as it takes. Where a send fails, a front part was sent. What is left to be received
+/// Sends all of `bytes`, in as many sends as it takes. If a send fails, only a front part was sent. What is left to be received
 /// stays as it is.
 pub fn send_whole<L: Link>(link: &mut L, bytes: &[u8]) -> Result<(), Failed>
     ensures whole { OnOk result (IfSome (L.written link.old)
@@ -92,8 +92,8 @@ pub fn send_whole<L: Link>(link: &mut L, bytes: &[u8]) -> Result<(), Failed>
     Ok(())
 }
 
-/// Reads to the end, but at most one byte more than `limit`: an answer that is longer than the
-/// limit shows that there is more than that. The answer takes one growing block of memory.
+/// Reads to the end, but at most one byte more than `limit`: a result that is longer than the limit shows that there is more
+/// than that. The result takes one growing block of memory.
 pub fn read_whole<S: Source>(
     alloc: Global,
     source: &mut S,

@@ -1,4 +1,4 @@
--- A new ring, its two ends, and both in one thread again.
+-- A new ring, its two ends, and both ends in one thread again.
 use Rattle.std.proofs.Common.{◌≡◌, ℕ, zero, suc, ◌<◌, List, [], ◌∷◌, ◌++◌, map, length, take, drop, set, slice_index, inl, inr, refl, sym, ap, ◌∙◌, arith}
 use Rattle.std.specs.Prelude.{All}
 use Rattle.std.proofs.lemmas.List.{length-append, length-map, take-append-drop, take-take}

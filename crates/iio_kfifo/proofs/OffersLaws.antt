@@ -1,4 +1,4 @@
--- What one offer more makes of the scans accepted and of the number lost.
+-- What another offer makes of the scans accepted and of the number lost.
 use Rattle.std.proofs.Common.{◌≡◌, ℕ, ◌+◌, List, [], ◌∷◌, ◌++◌, refl, ap, ◌∙◌, arith}
 use Rattle.iio_kfifo.specs.declared.view.Offer.{Offer}
 use Rattle.iio_kfifo.specs.declared.view.Offer.TheVariants.{Accepted, Refused}

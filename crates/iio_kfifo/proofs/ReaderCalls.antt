@@ -1,4 +1,4 @@
--- What the reader's calls ask of their steps, and what they keep.
+-- What the reader's calls require of their steps, and what they keep.
 use Rattle.std.proofs.Common.{◌≡◌, ◌≢◌, ℕ, suc, ◌+◌, ◌*◌, ◌/◌, ◌%◌, ◌^◌, ◌<◌, ◌≤◌, List, [], ◌∷◌, ◌++◌, length, take, drop, sym, ap, subst, ◌∙◌, arith}
 use Rattle.std.specs.List.{flat_map}
 use Rattle.std.proofs.lemmas.Grind.{flat_map-append}
@@ -126,7 +126,7 @@ same_cell xs ys zs s t c d e f = ap (λ (l : List (ℕ × Cell)). cell_at l c) (
 
 -- ---- scans were received
 
--- the slots in hand are those of the view after a load, and that many of them are received
+-- the slots in hand are those of the view after a load, and the first `m` of their scans are received
 pub may_receive : (k : Key) (slots n m t : ℕ) (a : View) (b : Me Cell View) (v : View) (held : List (ℕ × Cell)) (count : ℕ) → (g : InHand slots n a b)
     → a.part ≡ Reads → slots ≡ k.slots → a.size ≡ k.size
     → v ≡ b.0 → Turned slots a.size (length a.reading.received) t g.hand held → count ≡ length a.reading.received → m ≤ length g.hand

@@ -125,7 +125,7 @@ module _ (k : Key) (words : List ℕ) (homes : List (Option Cell)) (w : Writing)
     told = h.told;
   }
 
-  -- the load of the closed word, where the ring is open and where it is closed
+  -- the load of the closed word, if the ring is open and if it is closed
   abbrev asker : Reading
   asker = record r { word = 0; asks = r.asks + 1; looked = r.looks }
 
@@ -349,7 +349,7 @@ pub ask_at : (k : Key) (id slots : ℕ) (v : View) (held : List (ℕ × Cell)) �
     → Allows (holds k) slots id (v, held) 1 (λ n. n) (λ n b. Asked (v, held) n b)
 ask_at k id slots v held nil reads idle = rw nil (ask k id slots v reads idle)
 
--- what a store of `out` asks
+-- what a store of `out` requires
 pub record MayReceive (k : Key) (v : View) (held : List (ℕ × Cell)) (n : ℕ) : Type 0 where
   pub reads : v.part ≡ Reads
   pub turns : ℕ

@@ -1,4 +1,4 @@
--- What a scan more and some scans less make of a ring of slots.
+-- What another scan and the taking of some scans make of a ring of slots.
 use Rattle.std.proofs.Common.{◌≡◌, ℕ, zero, suc, ◌+◌, ◌-◌, ◌*◌, ◌≤◌, ◌<◌, min, List, [], ◌∷◌, ◌++◌, length, take, drop, refl, sym, ap, subst, ◌∙◌, inl, inr, arith, add-one, mul-le-mul_right}
 use Rattle.std.proofs.lemmas.Bool.{cases_lt}
 use Rattle.std.proofs.lemmas.Bool.Decides.{nat_tests}
@@ -28,11 +28,11 @@ slot_within slot count slots less most =
 -- ---- scans less
 
 module _ (first waiting size slots len room : ℕ) (ring : IsRing first waiting size slots len room) where
-  -- that many slots from the ring's start on were written
+  -- `count` slots from the ring's start on were written
   pub slots_written : (count : ℕ) → count ≤ min (first + waiting) slots → count * size ≤ len
   slots_written count few = omega (arith, mul-le-mul_right size few, ring.written)
 
-  -- all were where scans wait up to the ring's end
+  -- all slots were written if scans wait up to the ring's end
   all_written : slots ≤ first + waiting → len ≡ slots * size
   all_written round = omega (arith, slots_written slots (omega (arith, round)), ring.within)
 
@@ -114,7 +114,7 @@ module _ (first waiting count size slots room : ℕ) (bytes : List ℕ) (ring : 
   pub less_ring : IsRing (first_after first count (waiting - count) slots) (waiting - count) size slots (length bytes) room
   less_ring = left_ring first count size slots room bytes (waiting - count) (length bytes) ring'
 
-  -- the bytes of the first ones: those that stand up to the ring's end, and then those from its start
+  -- the bytes of the first scans: those that stand up to the ring's end, and then those from its start
   pub first_bytes : take (count * size) (bytes_from (first * size) bytes)
       ≡ take (min count (slots - first) * size) (drop (first * size) bytes) ++ take ((count - min count (slots - first)) * size) bytes
   first_bytes =
@@ -146,7 +146,7 @@ module _ (first waiting count size slots room : ℕ) (bytes : List ℕ) (ring : 
       let h = ring.begins in
       omega (arith, slots_written first waiting size slots (length bytes) room ring (first + min count (slots - first)) (omega (arith, there, h)))
 
--- the scans that a take of at most that many gives, their bytes, and those that are left
+-- the scans that a take of at most `most` gives, their bytes, and those that are left
 module _ (first waiting most count size slots room : ℕ) (bytes : List ℕ) (ring : IsRing first waiting size slots (length bytes) room)
     (is : count ≡ min waiting most) where
   less : scans_in size waiting (bytes_from (first * size) bytes)
@@ -180,9 +180,9 @@ first_fits first waiting size slots len room ring some =
     let h = ring.begins in
     omega (arith, slots_written first waiting size slots len room ring (suc first) (omega (arith, h, some)))
 
--- ---- a scan more
+-- ---- another scan
 
--- one scan more after those that stand in some bytes, whatever follows
+-- another scan after those that stand in some bytes, whatever follows
 one_more : (size count : ℕ) (bytes scan rest rest' : List ℕ) → length bytes ≡ count * size → length scan ≡ size
     → scans_in size (suc count) (bytes ++ scan ++ rest') ≡ scans_in size count (bytes ++ rest) ++ scan ∷ []
 one_more size count bytes scan rest rest' all one =
@@ -190,11 +190,11 @@ one_more size count bytes scan rest rest' all one =
     scans_in-front size (suc count) (bytes ++ scan) rest' long ∙ scans_in-append size count bytes scan all one
     ∙ ap (λ xs. xs ++ scan ∷ []) (sym (scans_in-front size count bytes rest (omega (arith, all))))
 
--- bytes with a scan's written over them
+-- bytes with a scan written over them
 abbrev pub overwritten : ℕ → (scan bytes : List ℕ) → List ℕ
 overwritten start scan bytes = take start bytes ++ scan ++ drop (start + length scan) bytes
 
--- after the last scan
+-- a scan written after the last one
 offer_on : (size waiting from start : ℕ) (bytes scan : List ℕ) → start ≡ from + waiting * size → start ≤ length bytes → length scan ≡ size
     → scans_in size (suc waiting) (bytes_from from (overwritten start scan bytes)) ≡ scans_in size waiting (bytes_from from bytes) ++ scan ∷ []
 offer_on size waiting from start bytes scan is within one =
@@ -218,7 +218,7 @@ offer_on size waiting from start bytes scan is within one =
     ∙ one_more size waiting run scan (after ++ bytes) (later ++ new) all one
     ∙ ap (λ xs. scans_in size waiting xs ++ scan ∷ []) old_run
 
--- before the first scan, the ring's last bytes being in use
+-- a scan written before the first one, if the ring's last bytes are in use
 offer_round : (size waiting from start : ℕ) (bytes scan : List ℕ) → length bytes + start ≡ from + waiting * size → start + size ≤ from → from ≤ length bytes
     → length scan ≡ size
     → scans_in size (suc waiting) (bytes_from from (overwritten start scan bytes)) ≡ scans_in size waiting (bytes_from from bytes) ++ scan ∷ []

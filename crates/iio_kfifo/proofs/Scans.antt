@@ -1,4 +1,4 @@
--- Scans that stand one after the other in bytes: how many there are, one more at the end, bytes after them, the first of
+-- Scans that stand one after the other in bytes: how many there are, another one at the end, bytes after them, the first of
 -- them and the others, and their bytes.
 use Rattle.std.proofs.Common.{◌≡◌, ℕ, zero, suc, ◌+◌, ◌*◌, ◌≤◌, min, List, [], ◌∷◌, ◌++◌, length, take, drop, refl, sym, ap, ◌∙◌, arith}
 use Rattle.std.proofs.lemmas.List.{length-drop, nil_from_length, take_all, take-append-le, drop-append-le, drop-drop, drop_min, take_min}
@@ -10,7 +10,7 @@ pub length-scans_in : (size count : ℕ) (bytes : List ℕ) → length (scans_in
 length-scans_in size zero bytes = refl
 length-scans_in size (suc count) bytes = ap suc (length-scans_in size count (drop size bytes))
 
--- one scan more, after the others
+-- another scan after the others
 pub scans_in-append : (size count : ℕ) (bytes scan : List ℕ) → length bytes ≡ count * size → length scan ≡ size
     → scans_in size (suc count) (bytes ++ scan) ≡ scans_in size count bytes ++ scan ∷ []
 scans_in-append size zero bytes scan all one =
@@ -25,7 +25,7 @@ scans_in-append size (suc count) bytes scan all one =
     ∙ ap (λ xs. take size bytes ∷ scans_in size (suc count) xs) rest
     ∙ ap (λ xs. take size bytes ∷ xs) (scans_in-append size count (drop size bytes) scan fewer one)
 
--- bytes after them don't count
+-- bytes after the scans don't count
 pub scans_in-front : (size count : ℕ) (bytes rest : List ℕ) → count * size ≤ length bytes → scans_in size count (bytes ++ rest) ≡ scans_in size count bytes
 scans_in-front size zero bytes rest long = refl
 scans_in-front size (suc count) bytes rest long =
@@ -35,7 +35,7 @@ scans_in-front size (suc count) bytes rest long =
     ∙ ap (λ xs. take size bytes ∷ scans_in size count xs) (drop-append-le size bytes rest more)
     ∙ ap (λ xs. take size bytes ∷ xs) (scans_in-front size count (drop size bytes) rest fewer)
 
--- the first of them, and then the others
+-- the first scans, and then the others
 pub scans_in-split : (size first count : ℕ) (bytes : List ℕ)
     → scans_in size (first + count) bytes ≡ scans_in size first bytes ++ scans_in size count (drop (first * size) bytes)
 scans_in-split size zero count bytes =
@@ -50,7 +50,7 @@ scans_in-split size (suc first) count bytes =
     (scans_in-split size first count (drop size bytes)
     ∙ ap (λ xs. scans_in size first (drop size bytes) ++ scans_in size count xs) (drop-drop (first * size) size bytes)))
 
--- their bytes are the first of those that they stand in
+-- the bytes of the scans are the first of those that they stand in
 pub scans_in-bytes : (size count : ℕ) (bytes : List ℕ) → flat_map (λ scan. scan) (scans_in size count bytes) ≡ take (count * size) bytes
 scans_in-bytes size zero bytes = let none : 0 * size ≡ 0 = omega arith in rw none refl
 scans_in-bytes size (suc count) bytes =

@@ -89,7 +89,7 @@ pub record Taken (k : Key) (homes : List (Option Cell)) (xs : List Sent) (i n : 
   pub count : length (homes_after homes [] act) ≡ length homes
   pub are : AreIn k.slots k.size i (take n (drop i xs)) (carried_after [] act)
 
--- the places of one run have slots of their own
+-- the places of one run have different slots
 pub apart : (k : Key) (i d n : ℕ) → i < d → d < i + n → n ≤ k.slots → slot_of k i ≢ slot_of k d
 apart k i d n less within few e = absurd (omega (arith, less, one_turn i d k.slots (omega (arith, less)) (omega (arith, within, few)) e))
 

@@ -1,4 +1,4 @@
--- Which of a ring's views is whose.
+-- Which view of a ring belongs to which end.
 use Rattle.std.proofs.Common.{◌≡◌, ℕ, zero, suc, List, [], ◌∷◌, set, inl, inr, refl, sym, ap, ◌∙◌}
 use mathlib.Core.Option.{Option, some}
 use lib.ListN.{get_elem?}
@@ -61,7 +61,7 @@ spent_joined e = cc
 part_of : {v x : View} → {p q : Part} → some x ≡ some v → v.part ≡ p → x.part ≡ q → q ≡ p
 part_of {v} {x} e vp xp = let same : x ≡ v = cc in sym xp ∙ (ap (λ (z : View). z.part) same ∙ vp)
 
--- the writer's view stands first, and what is put in its place keeps the rule with the same reader
+-- the writer's view stands first, and a view put in its place keeps the rule with the same reader
 pub record AtWriter (k : Key) (words : List ℕ) (homes : List (Option Cell)) (views : List View) (id : ℕ) (v : View) : Type 0 where
   pub other : View
   pub size : v.size ≡ k.size
@@ -89,7 +89,7 @@ as_writer k words homes (x ∷ y ∷ []) (suc zero) v (inr h) e p = absurd (spen
 as_writer k words homes (x ∷ y ∷ []) (suc (suc n)) v h e p = absurd (cc)
 as_writer k words homes (x ∷ y ∷ z ∷ zs) id v h e p = absurd h
 
--- the reader's stands second
+-- the reader's view stands second, and a view put in its place keeps the rule with the same writer
 pub record AtReader (k : Key) (words : List ℕ) (homes : List (Option Cell)) (views : List View) (id : ℕ) (v : View) : Type 0 where
   pub other : View
   pub size : v.size ≡ k.size
@@ -145,7 +145,7 @@ as_joined k words homes (x ∷ y ∷ []) (suc zero) v (inr h) e p = absurd (spen
 as_joined k words homes (x ∷ y ∷ []) (suc (suc n)) v h e p = absurd (cc)
 as_joined k words homes (x ∷ y ∷ z ∷ zs) id v h e p = absurd h
 
--- the two ends of a ring, of which the one is the writer's and the other the reader's
+-- the two ends of a ring, one of them the writer's and the other the reader's
 pub both_ends : (k : Key) (words : List ℕ) (homes : List (Option Cell)) (views : List View) (id other : ℕ) (v w both : View) → HoldsOf k words homes views
     → get_elem? views id ≡ some v → v.part ≡ Writes
     → ¬ (other ≡ id) → get_elem? (set views id both) other ≡ some w → w.part ≡ Reads

@@ -1,4 +1,4 @@
--- What the writer's calls ask of their steps, and what they keep.
+-- What the writer's calls require of their steps, and what they keep.
 use Rattle.std.proofs.Common.{◌≡◌, ℕ, ◌+◌, ◌-◌, ◌%◌, ◌^◌, ◌<◌, true, false, List, [], ◌∷◌, ◌++◌, length, refl, sym, ap, ◌∙◌, arith}
 use Rattle.std.proofs.lemmas.List.{length-append}
 use mathlib.Core.Option.{none}
@@ -16,7 +16,7 @@ use Rattle.iio_kfifo.specs.Ends.{Answers, WriterCounts}
 use Rattle.iio_kfifo.proofs.OffersLaws.{accepted-accept, accepted-refuse, lost-accept, lost-refuse}
 use Rattle.iio_kfifo.proofs.WriterLaws.{MayAccept}
 
--- what the load told, where there is room
+-- what the load showed, if there is room
 pub record Begun (slots n : ℕ) (a : View) (b : Me Cell View) : Type 0 where
   pub cell : Cell
   pub size : length cell.bytes.items ≡ a.size

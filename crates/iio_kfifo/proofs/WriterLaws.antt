@@ -253,7 +253,7 @@ pub look_out_at : (k : Key) (id slots : ℕ) (v : View) (held : List (ℕ × Cel
     → Allows (holds k) slots id (v, held) 16 (λ n. n) (LookedOut (step slots 16 0 0 none) (v, held))
 look_out_at k id slots v held nil writes idle open' e = rw nil (look_out k id slots v writes idle open' e)
 
--- of the slot in hand: what a store of `in` asks
+-- what a store of `in` requires of the slot in hand
 pub record MayAccept (k : Key) (v : View) (at : ℕ) (c : Cell) (n : ℕ) : Type 0 where
   pub writes : v.part ≡ Writes
   pub busy : v.writing.turn ≡ true

@@ -40,7 +40,7 @@ pub record WriterLeft : Type 0 where
 
 -- ---- an offer
 
--- what one offer makes of what the writer knows. It is lost only where the load of this call showed as many scans waiting as
+-- what one offer makes of what the writer knows. It is lost only if the load of this call showed as many scans waiting as
 -- the ring has slots
 abbrev pub Answers : ℕ → Writing → List ℕ → Offered → Writing → Type 0
 Answers capacity w scan Taken w' =
@@ -54,7 +54,7 @@ Offers old scan answer new = (new ≡ record old { knows = new.knows }) × Answe
 
 -- ---- takes
 
--- where the ring was seen closed, all that was ever accepted was received
+-- if the ring was seen closed, all that was ever accepted was received
 abbrev pub AllReceived : Reading → Type 0
 AllReceived r = r.word ≢ 0 → accepted r.offers ≡ r.received
 
@@ -63,7 +63,7 @@ pub record FindsNone (r r' : Reading) : Type 0 where
   pub knows : r' ≡ record r { seen = length r.received; left = 0; looks = r.looks + 1 }
   pub all : AllReceived r'
 
--- the next accepted scan was received, `lost` offers having been lost before it
+-- the next accepted scan was received, and `lost` offers were lost before it
 pub record TakesOne (r : Reading) (scan : List ℕ) (lost : ℕ) (r' : Reading) : Type 0 where
   pub showed : 0 < r'.left
   pub knows : r' ≡ record r { received = r.received ++ record { scan = scan; lost = lost } ∷ []; seen = r'.seen; left = r'.left; looks = r.looks + 1 }
@@ -85,7 +85,7 @@ pub record TakesSome (r : Reading) (given : ℕ) (before after : List ℕ) (r' :
   pub knows : r' ≡ record r { received = r.received ++ more; seen = r'.seen; left = r'.left; looks = r'.looks }
   pub looks : r.looks ≤ r'.looks
 
--- `given` scans were received by this call, and their bytes were appended. They are fewer than `most` only where the last load
+-- `given` scans were received by this call, and their bytes were appended. They are fewer than `most` only if the last load
 -- of this call showed nothing left
 pub record TakesScans (r : Reading) (most given : ℕ) (before after : List ℕ) (r' : Reading) : Type 0 where
   pub takes : TakesSome r given before after r'
@@ -138,7 +138,7 @@ pub record WriterCounts (k : Key) (w : Writing) (count lost slots size : ℕ) : 
   pub lost_is : lost ≡ lost_in w.offers
   pub fits : lost < 2 ^ 64 - 1
 
--- and so are those of a reader
+-- the numbers that a reader keeps are those of what it knows
 pub record ReaderCounts (k : Key) (r : Reading) (count slots size : ℕ) : Type 0 where
   pub slots_is : k.slots ≡ slots
   pub size_is : k.size ≡ size
@@ -146,7 +146,7 @@ pub record ReaderCounts (k : Key) (r : Reading) (count slots size : ℕ) : Type 
 
 -- ---- the end of a reader
 
--- the number received comes with whether the load of this call showed the ring closed
+-- the number of scans received, with whether the load of this call showed the ring closed
 abbrev pub Ends : Reading → Ended → Reading → Type 0
 Ends r (Whole n) r' = (n ≡ length r.received) × AsksClosed r r'
 Ends r (Cut n) r' = (n ≡ length r.received) × AsksOpen r r'

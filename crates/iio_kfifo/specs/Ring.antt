@@ -5,7 +5,8 @@ use Rattle.std.specs.Prelude.{ℕ, zero, suc, ◌+◌, ◌-◌, ◌*◌, ◌≤�
 abbrev pub slot_after : (slot count slots : ℕ) → ℕ
 slot_after slot count slots = if nat_lt (slot + count) slots then slot + count else slot + count - slots
 
--- the first scan's slot once `count` scans were taken, by how many are left: with none the ring begins at its first slot again
+-- the first scan's slot once `count` scans were taken, by how many are left; with none left the ring begins at its first slot
+-- again
 abbrev pub first_after : (first count left slots : ℕ) → ℕ
 first_after first count zero slots = 0
 first_after first count (suc left) slots = slot_after first count slots

@@ -26,7 +26,7 @@ sent_at xs i = slice_index_or xs i (record { scan = []; lost = 0 })
 abbrev pub sent_of : Cell → Sent
 sent_of c = record { scan = c.bytes.items; lost = c.lost }
 
--- the closed word: 0 while the ring is open, else one more than the number lost
+-- the closed word: 0 while the ring is open, otherwise one more than the number lost
 abbrev pub closed_word : Bool → ℕ → ℕ
 closed_word false lost = 0
 closed_word true lost = lost + 1
@@ -89,7 +89,7 @@ new_reading = record { received = []; hand = []; seen = 0; left = 0; looks = 0; 
 abbrev pub new_view : Part → ℕ → View
 new_view p size = record { part = p; size = size; writing = new_writing; reading = new_reading }
 
--- the writer's view once the reader's is split off
+-- the writer's view after the reader's was split off
 abbrev pub writer_part : View → View
 writer_part v = record v { part = Writes }
 
@@ -118,7 +118,7 @@ pub record Whole (part : Part) (k : Key) (words : List ℕ) (homes : List (Optio
   pub size : v.size ≡ k.size
   pub rings : Rings k words homes (accepted v.writing.offers) v.writing v.reading
 
--- the rule, by the views that there are: one before the split, then two, of which one is spent once they were joined
+-- the rule, by the number of views: one before the split, then two, and one of the two is spent once they were joined
 abbrev pub HoldsOf : Key → List ℕ → List (Option Cell) → List View → Type 0
 HoldsOf k words homes [] = ⊥
 HoldsOf k words homes (v ∷ []) = Whole Fresh k words homes v

@@ -1,4 +1,4 @@
-//! A ring's two ends, and both in one thread again.
+//! A ring's two ends, and how a ring is ended once both are in one thread again.
 
 ghost use Rattle.std.specs.Prelude.{◌≡◌, ◌≢◌, ℕ, ◌+◌, ◌*◌, ◌<◌, ◌≤◌, ◌++◌, List, [], length, IfOk, All};
 ghost use Rattle.std.specs.Arc.{arc_value};
@@ -20,7 +20,7 @@ use iio_base::Mem;
 use std::alloc::Global;
 use std::sync::Arc;
 
-/// What came of a ring whose ends are in one thread again.
+/// The counts of a ring whose ends are in one thread again.
 #[derive(Clone, Copy, Debug, PartialEq, Eq)]
 pub struct Receipt {
     /// How many scans were received.
@@ -31,8 +31,9 @@ pub struct Receipt {
     pub lost: u64,
 }
 
-/// Makes an empty ring of at most `capacity` scans of `size` bytes each, and gives its two ends. All memory that it ever takes
-/// is taken here: `capacity` times `size` bytes, up to `MAX_BYTES`, and some for each slot. `Mem` comes where there isn't enough.
+/// Makes an empty ring of at most `capacity` scans of `size` bytes each, and returns its two ends. All memory that it ever
+/// takes is taken here: `capacity` times `size` bytes, up to `MAX_BYTES`, and some for each slot. Returns `Mem` if there isn't
+/// enough.
 pub fn ring(alloc: Global, capacity: u32, size: u32) -> Result<(Writer, Reader), Mem>
     requires some { 1 ≤ capacity }
     requires bytes { 1 ≤ size }
@@ -74,7 +75,7 @@ fn cells_of(alloc: Global, capacity: u32, size: u32) -> Result<Vec<Cell>, Mem>
     Ok(cells)
 }
 
-// The two ends over a new table.
+// Makes the two ends over a new table.
 fn ends_of(
     alloc: Global,
     table: Table<Cell, View, Key, RingRule, Global>,
@@ -122,8 +123,8 @@ fn ends_of(
 }
 
 impl Reader {
-    /// Ends the taking beside what the writer of this very ring left when it closed it, and says how many scans were accepted
-    /// and not received. Where the reader had seen the ring closed, the offers that it saw are those that the writer made.
+    /// Ends the reader, given what the writer of this very ring left when it closed it. Returns how many scans were accepted
+    /// and not received. If the reader had seen the ring closed, the offers that it saw are those that the writer made.
     pub fn end_beside(self, closing: Closing) -> u64
         requires { self.ring ≡ closing.ring }
         ensures left { (left : List Sent) × (length left ≡ result) × (accepted closing.knows.offers ≡ self.knows.received ++ left) }
@@ -141,7 +142,7 @@ impl Reader {
     }
 }
 
-/// Ends a ring whose two ends are in one thread again, open as it is. The two are of one ring.
+/// Ends a ring that is still open and whose two ends are in one thread again. The two must be of one ring.
 pub fn give_back(writer: Writer, reader: Reader) -> Receipt
     requires { writer.ring ≡ reader.ring }
     ensures received { result.received ≡ length reader.knows.received }
@@ -172,7 +173,7 @@ pub fn give_back(writer: Writer, reader: Reader) -> Receipt
     }
 }
 
-// Joins the two ends and compares them. It gives how many scans were accepted.
+// Joins the two ends and compares them. Returns how many scans were accepted.
 fn settle(
     shared: &Shared<Cell, View, Key, RingRule>,
     seat: &mut Seat<Cell, View>,

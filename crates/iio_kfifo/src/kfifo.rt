@@ -9,11 +9,11 @@ use iio_base::Mem;
 use std::alloc::Global;
 use std::marker::Model;
 
-/// A queue of whole scans, in a ring of slots. A slot's bytes are there once a scan was written to it.
+/// A queue of whole scans, in a ring of slots. A slot's bytes exist once a scan was written to it.
 #[derive(Debug, Drop)]
 pub struct Kfifo {
     bytes: Vec<u8>,
-    // The slot of the oldest scan that waits; 0 where none does.
+    // The slot of the oldest scan that waits; 0 if none waits.
     first: u32,
     waiting: u32,
     taken: u64,
@@ -55,8 +55,8 @@ fn slot_after(slot: u32, count: u32, slots: u32) -> u32
     }
 }
 
-// The first scan's slot once `count` scans were taken, where `left` scans are left. With none left the ring begins at its first
-// slot again, so that a queue that is read often uses few bytes.
+// The slot of the first scan once `count` scans were taken and `left` scans are left. If none is left, the ring begins at its
+// first slot again, so that a queue that is read often uses few bytes.
 fn first_after(first: u32, count: u32, left: u32, slots: u32) -> u32
     requires slot { first < slots }
     requires count { count ≤ slots }
@@ -69,7 +69,7 @@ fn first_after(first: u32, count: u32, left: u32, slots: u32) -> u32
     slot_after(first, count, slots)
 }
 
-// Writes a scan from byte `start` on, over the bytes that stand there. There may be fewer than it has.
+// Writes a scan from byte `start` on, over the bytes that are there, which may be fewer than the scan has.
 fn write_at(bytes: &mut Vec<u8>, start: usize, scan: &[u8])
     requires start { start ≤ length bytes.old.items }
     requires room { start + length scan.now ≤ vec_capacity bytes.old }
@@ -83,7 +83,7 @@ fn write_at(bytes: &mut Vec<u8>, start: usize, scan: &[u8])
     }
 }
 
-// Writes a scan from byte `start` on, as the last of the bytes.
+// Writes a scan from byte `start` on, in place of all bytes from there on.
 #[inline]
 fn write_last(bytes: &mut Vec<u8>, start: usize, scan: &[u8])
     requires start { start ≤ length bytes.old.items }
@@ -98,7 +98,7 @@ fn write_last(bytes: &mut Vec<u8>, start: usize, scan: &[u8])
 impl Kfifo {
     ghost use Rattle.iio_kfifo.specs.Queue.{GivesFirst, GivesScans};
 
-    /// An empty queue of at most `capacity` scans of `size` bytes. All memory that it ever takes is taken here.
+    /// Makes an empty queue of at most `capacity` scans of `size` bytes each. All memory that it ever takes is taken here.
     pub fn new(alloc: Global, capacity: u32, size: u32) -> Result<Kfifo, Mem>
         requires some { 1 ≤ capacity }
         requires bytes { 1 ≤ size }
@@ -123,7 +123,7 @@ impl Kfifo {
         })
     }
 
-    /// Moves the oldest scan into `out`, and says whether there was one.
+    /// Moves the oldest scan into `out`. Returns whether there was one.
     pub fn take(&mut self, out: &mut [u8]) -> bool
         requires { length out.old ≡ self.old.size }
         ensures { MatchBool result
@@ -141,8 +141,8 @@ impl Kfifo {
         true
     }
 
-    /// Moves up to `most` of the oldest scans after the bytes that stand in `out`, one after the other, and says how many
-    /// scans there were. There is room in `out` for the bytes of `most` scans.
+    /// Takes up to `most` of the oldest scans, appends them to `out`, one after the other, and returns how many there were.
+    /// `out` must have room for the bytes of `most` scans.
     pub fn take_scans(&mut self, most: u32, out: &mut Vec<u8>) -> u32
         requires { length out.old.items + most * self.old.size ≤ vec_capacity out.old }
         ensures gives { GivesScans most result out.old.items out.new.items self.old self.new }
@@ -150,7 +150,7 @@ impl Kfifo {
         ensures room { vec_capacity out.old ≤ vec_capacity out.new }
     {
         let count = self.waiting.min(most);
-        // Those that stand up to the ring's end, and then those from its start.
+        // First the scans up to the ring's end, then those from its start.
         let run = count.min(self.capacity - self.first);
         let size = self.size as usize;
         let start = self.first as usize * size;
@@ -161,7 +161,7 @@ impl Kfifo {
         count
     }
 
-    /// How many scans wait.
+    /// The number of scans that wait.
     pub fn waiting(&self) -> u32
         ensures count { result ≡ length self.now.scans }
         ensures within { result ≤ self.now.capacity }

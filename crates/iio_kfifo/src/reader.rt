@@ -21,7 +21,7 @@ use std::sync::Arc;
 pub struct Mark {
     /// Its place among the accepted scans, from 0.
     pub seq: u64,
-    /// The place of its offer among all offers, from 0: `seq` and `lost` together.
+    /// The place of its offer among all offers, from 0: the sum of `seq` and `lost`.
     pub number: u64,
     /// How many offers were lost before it.
     pub lost: u64,
@@ -32,11 +32,11 @@ pub struct Mark {
 pub enum Ended {
     /// The ring was closed: these and the scans that are left are all that were ever accepted.
     Whole(u64),
-    /// It was open: there may be more to come.
+    /// The ring was open: more may come.
     Cut(u64),
 }
 
-/// The end of a ring at which scans are taken. It can't be dropped: it is spent by `end`, `end_beside` or `give_back`.
+/// The end of a ring at which scans are taken. It can't be dropped: `end`, `end_beside` or `give_back` consumes it.
 pub struct Reader {
     pub(crate) table: Arc<Table<Cell, View, Key, RingRule, Global>>,
     pub(crate) seat: Seat<Cell, View>,
@@ -73,7 +73,7 @@ impl Model for Ending {
     ghost view = { λ e. e.seat.me.0.reading };
 }
 
-// Takes the oldest scan that is left, and says how many offers were lost before it.
+// Takes the oldest scan that is left, if any, and returns how many offers were lost before it.
 fn take_one(
     shared: &Shared<Cell, View, Key, RingRule>,
     seat: &mut Seat<Cell, View>,
@@ -101,7 +101,7 @@ fn take_one(
     Some(lost)
 }
 
-// Appends the scan in the slot in hand, which goes after the others in hand.
+// Appends the scan of the first slot in hand, and puts that slot after the others in hand.
 fn append_next(
     shared: &Shared<Cell, View, Key, RingRule>,
     seat: &mut Seat<Cell, View>,
@@ -157,7 +157,7 @@ fn append_run(
     }
 }
 
-// Takes scans that are left, up to `most`, after one load, by one store.
+// Takes up to `most` of the scans that are left, by one load and one store.
 fn take_run(
     shared: &Shared<Cell, View, Key, RingRule>,
     seat: &mut Seat<Cell, View>,
@@ -189,7 +189,7 @@ fn take_run(
     run as u32
 }
 
-// Looks how many scans are left.
+// Returns how many scans are left, by one load.
 fn count_left(
     shared: &Shared<Cell, View, Key, RingRule>,
     seat: &mut Seat<Cell, View>,
@@ -205,7 +205,7 @@ fn count_left(
     found - count
 }
 
-// The closed word.
+// Loads the closed word.
 fn ask_closed(shared: &Shared<Cell, View, Key, RingRule>, seat: &mut Seat<Cell, View>) -> u64
     requires rests { ReaderRests shared.now.table_id shared.now.key seat.old.table_id seat.old.me }
     ensures rests { ReaderRests shared.now.table_id shared.now.key seat.new.table_id seat.new.me }
@@ -219,7 +219,8 @@ fn ask_closed(shared: &Shared<Cell, View, Key, RingRule>, seat: &mut Seat<Cell, 
 impl Reader {
     ghost use Rattle.iio_kfifo.specs.Ends.{Ends};
 
-    /// Takes the oldest scan that is left into `out`, which has its size. `None` comes only where this call found nothing left.
+    /// Takes the oldest scan that is left into `out`, which has the size of a scan. Returns `None` only if this call found
+    /// nothing left.
     pub fn take(&mut self, out: &mut [u8]) -> Option<Mark>
         requires { length out.old ≡ self.old.size }
         ensures same { self.new ≡ record self.old { knows = self.new.knows } }
@@ -246,7 +247,7 @@ impl Reader {
         })
     }
 
-    // Takes scans that are left, up to `most`, after one load.
+    // Takes up to `most` of the scans that are left, after one load.
     fn take_some(&mut self, most: u32, out: &mut Vec<u8>) -> u32
         requires some { 1 ≤ most }
         requires room { length out.old.items + most * self.old.size ≤ vec_capacity out.old }
@@ -267,9 +268,9 @@ impl Reader {
         taken
     }
 
-    /// Takes the oldest scans that are left, up to `most`, appends their bytes to `out`, one scan after the other, and says how
-    /// many there were. There is room in `out` for the bytes of `most` scans. Fewer come only where this call found nothing
-    /// left in the end.
+    /// Takes up to `most` of the oldest scans that are left, appends their bytes to `out`, one scan after the other, and
+    /// returns how many there were. `out` must have room for the bytes of `most` scans. Fewer are taken only if this call found
+    /// nothing left in the end.
     pub fn take_scans(&mut self, most: u32, out: &mut Vec<u8>) -> u32
         requires { length out.old.items + most * self.old.size ≤ vec_capacity out.old }
         ensures same { self.new ≡ record self.old { knows = self.new.knows } }
@@ -286,7 +287,7 @@ impl Reader {
         taken
     }
 
-    /// How many scans are left, as this call found it. The writer may have added some since.
+    /// The number of scans that are left, as this call found it. The writer may have added some since.
     pub fn waiting(&mut self) -> u64
         ensures same { self.new ≡ record self.old { knows = self.new.knows } }
         ensures left { self.new.knows
@@ -295,7 +296,7 @@ impl Reader {
         count_left(&self.table.shared, &mut self.seat, self.count)
     }
 
-    /// Whether the writer closed the ring. Then nothing comes any more.
+    /// Whether the writer closed the ring. If so, nothing more is offered to it.
     pub fn closed(&mut self) -> bool
         ensures same { self.new ≡ record self.old { knows = self.new.knows } }
         ensures kept { self.new.knows.received ≡ self.old.knows.received }
@@ -304,7 +305,7 @@ impl Reader {
         ask_closed(&self.table.shared, &mut self.seat) != 0
     }
 
-    /// How many offers were lost in all. `None` comes exactly where this call found the ring open.
+    /// The number of offers that were lost in all. Returns `None` exactly if this call found the ring open.
     pub fn lost(&mut self) -> Option<u64>
         ensures same { self.new ≡ record self.old { knows = self.new.knows } }
         ensures kept { self.new.knows.received ≡ self.old.knows.received }
@@ -318,8 +319,8 @@ impl Reader {
         Some(word - 1)
     }
 
-    /// Ends the taking, and says how many scans were received and whether the ring was closed by then. The second part of the
-    /// answer has what the reader knew.
+    /// Ends the reader. Returns how many scans were received, with whether the ring was closed by then, and beside that what
+    /// the reader knew.
     pub fn end(self) -> (Ended, Ending)
         ensures { Ends self.knows result.0 result.1 }
     {

@@ -1,4 +1,4 @@
-//! The rule of a ring, and what its steps tell.
+//! The rule of a ring, and what its steps show.
 
 ghost use Rattle.iio_kfifo.specs.declared.view.Part.TheVariants.{Fresh};
 ghost use Rattle.iio_kfifo.specs.Rule.{holds, new_view, writer_part, reader_part, joined, spent};
@@ -35,7 +35,7 @@ impl Join<View> for EndsJoined {
     ghost spent = { spent };
 }
 
-/// The writer looks how much the reader took.
+/// The writer looks at how much the reader took.
 pub(crate) struct LookOut;
 
 impl Play<Cell, View> for LookOut {
@@ -63,7 +63,7 @@ impl Play<Cell, View> for LookIn {
     ghost then = { λ s a n b. LookedIn s a n b };
 }
 
-/// The reader looks how much is left.
+/// The reader looks at how much is left.
 pub(crate) struct Count;
 
 impl Play<Cell, View> for Count {

@@ -5,13 +5,13 @@ ghost use Rattle.std.specs.Prelude.{◌≡◌, ℕ, ◌+◌, ◌-◌, ◌^◌, �
 /// What became of an offered scan.
 #[derive(Clone, Copy, Debug, PartialEq, Eq, Hash)]
 pub enum Offered {
-    /// It stands at the queue's end.
+    /// It was put at the queue's end.
     Taken,
     /// The queue was full.
     Lost,
 }
 
-/// The end of a queue at which scans come in. Scans have one size, in bytes.
+/// The end of a queue at which scans come in. All its scans have one size, in bytes.
 pub trait Tail {
     ghost use Rattle.iio_kfifo.specs.declared.tail.Offered.{Offered};
     ghost use Rattle.iio_kfifo.specs.Offered.{CountsOne};
@@ -22,13 +22,13 @@ pub trait Tail {
     // how many were lost
     ghost lost: { Self → ℕ };
 
-    // the bytes of a scan
+    // the size of a scan in bytes
     ghost size: { Self → ℕ };
 
-    // the most scans that wait
+    // the most scans that can wait
     ghost capacity: { Self → ℕ };
 
-    // what one offer of a scan answers, and makes of the queue
+    // what one offer of a scan returns, and how it changes the queue
     ghost offer_gives: { Self → List ℕ → Offered → Self → Type 0 };
 
     /// Offers a scan.
@@ -40,15 +40,15 @@ pub trait Tail {
         ensures same_size { size self.new ≡ size self.old }
         ensures same_capacity { capacity self.new ≡ capacity self.old };
 
-    /// How many scans were lost so far.
+    /// The number of scans that were lost so far.
     fn lost(&self) -> u64
         ensures { result ≡ lost self.now };
 
-    /// The bytes of a scan.
+    /// The size of a scan in bytes.
     fn size(&self) -> u32
         ensures { result ≡ size self.now };
 
-    /// The most scans that wait.
+    /// The most scans that can wait.
     fn capacity(&self) -> u32
         ensures { result ≡ capacity self.now };
 }

@@ -1,8 +1,8 @@
-//! What the ends of a ring know. No code makes these but the key.
+//! What the ends of a ring know. Of these types, code makes values of `Key` alone.
 
 use std::collections::LinkedList;
 
-/// The slots of a ring, and the bytes of a scan.
+/// The number of slots of a ring, and the size of a scan in bytes.
 #[derive(Drop)]
 pub(crate) struct Key {
     pub slots: u32,
@@ -13,7 +13,7 @@ pub(crate) struct Key {
 pub enum Offer {
     /// The scan was taken in.
     Accepted(LinkedList<u8>),
-    /// The ring was full, and it is lost.
+    /// The ring was full, and the scan was lost.
     Refused,
 }
 
@@ -25,7 +25,7 @@ pub struct Sent {
     pub lost: u64,
 }
 
-/// Which end a view is of: both before the split, the one or the other, both once they were joined, or none any more.
+/// Which end a view is of: both before the split, the one or the other after it, both once they were joined, or none any more.
 pub(crate) enum Part {
     Fresh,
     Writes,
@@ -42,7 +42,7 @@ pub struct Writing {
     pub turn: bool,
     /// The count of received scans, as it saw it last.
     pub seen: u64,
-    /// How often it looked at that.
+    /// How often it looked at that count.
     pub looks: u64,
     /// Whether it closed the ring.
     pub closed: bool,
@@ -56,21 +56,21 @@ pub struct Reading {
     pub hand: LinkedList<Sent>,
     /// The count of accepted scans, as it saw it last.
     pub seen: u64,
-    /// How many scans that showed to be left.
+    /// How many scans were left by that count.
     pub left: u64,
-    /// How often it looked at that.
+    /// How often it looked at that count.
     pub looks: u64,
     /// The closed word, as it saw it last.
     pub word: u64,
-    /// How often it asked for that.
+    /// How often it asked for that word.
     pub asks: u64,
-    /// How often it had looked when it asked last.
+    /// The value of `looks` when it asked last.
     pub looked: u64,
     /// All offers ever made, once it saw the ring closed.
     pub offers: LinkedList<Offer>,
 }
 
-/// What an end knows. Of an end that is not its own, a view has what it began with.
+/// What an end knows. The part of an end that is not its own stays as it was at first.
 pub(crate) struct View {
     pub part: Part,
     pub size: u32,

@@ -14,8 +14,8 @@ use std::alloc::Global;
 use std::marker::Model;
 use std::sync::Arc;
 
-/// The end of a ring at which scans come in. An offer is lost only where it found the ring full. A ring whose writer is dropped
-/// unclosed stays open.
+/// The end of a ring at which scans come in. An offer is lost only if it found the ring full. If the writer is dropped without
+/// a call of `close`, the ring stays open.
 #[derive(Drop)]
 pub struct Writer {
     pub(crate) table: Arc<Table<Cell, View, Key, RingRule, Global>>,
@@ -144,7 +144,7 @@ impl Tail for Writer {
 }
 
 impl Writer {
-    /// Closes the ring: nothing is offered to it any more, and its reader can tell that. What the writer knew stays as it was.
+    /// Closes the ring: nothing is offered to it any more, and its reader can see that. What the writer knew stays as it was.
     pub fn close(self) -> Closing
         ensures { result ≡ record {
           ring = self.ring;

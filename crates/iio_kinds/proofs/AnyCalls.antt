@@ -1,4 +1,4 @@
--- What the calls of a device of whichever kind are at each kind.
+-- What the calls of a device of any kind are at each kind.
 use Rattle.std.proofs.Common.{◌≡◌, ℕ, ◌-◌, Bool, true, false, Option, Some, None, IfSome, Result, refl, sym, subst, ◌∙◌, cond, List, [], ◌∷◌, map, ap}
 use Rattle.std.specs.Prelude.{◌&&◌}
 use Rattle.std.specs.List.{list_any}
@@ -30,13 +30,13 @@ use Rattle.iio_kinds.specs.MeanStation.{mean_member}
 use Rattle.iio_kinds.specs.OutStation.{out_station, writers_of}
 use Rattle.iio_kinds.specs.Station.{any_station}
 
--- an inner member is an input device's
+-- only an input device has inner members
 pub none_inner : (d : DeviceHead) (mask capacity : ℕ) (st : Station) (inner : Option ℕ) → is_input d.kind ≡ false
     → IfSome inner (MayHaveInner d mask capacity st) → inner ≡ None
 none_inner d mask capacity st None other h = refl
 none_inner d mask capacity st (Some j) other h = absurd (let own : is_input d.kind ≡ true = h.input in let both : true ≡ false = sym own ∙ other in cc)
 
--- the scans of an output device's member alone come round again
+-- only the scans of an output device's member come round again
 pub never_cyclic : (cyclic : Bool) → (cyclic && true) ≡ false → cyclic ≡ false
 never_cyclic true e = e
 never_cyclic false e = refl
@@ -55,7 +55,7 @@ joins_output d st mask capacity cyclic inner number shape result old new trigger
     subst (λ (o : Option ℕ). JoinsAny mask capacity cyclic o number shape result old new trigger trigger')
     (sym (none_inner d mask.bits capacity st inner other may)) joins
 
--- a choice between the same
+-- a choice between two that are the same
 pub either : {A : Type 0} (b : Bool) (x : A) → cond b x x ≡ x
 either true x = refl
 either false x = refl
@@ -63,7 +63,7 @@ either false x = refl
 none_whole : (shape : ShapeRecord) (o : Option Capture) (members : List Member) (scan : List ℕ) → o ≡ None → IsTakenWhole shape o members scan
 none_whole shape o members scan none = subst (λ (x : Option Capture). IsTakenWhole shape x members scan) (sym none) tt
 
--- without an entry there is no capture, and nothing changes
+-- if there is no entry, there is no capture, and nothing changes
 pub nothing_whole : (kind : Kind) (ended : Bool) (shape : ShapeRecord) (st : Station) (members : List Member) (scan : List ℕ)
     → IsTakenWhole shape (entry_capture kind None ended shape st) members scan
 nothing_whole kind ended shape st members scan = none_whole shape _ members scan (either ended None)
@@ -77,13 +77,13 @@ pub output_whole : (e : Handed) (ended : Bool) (shape : ShapeRecord) (st : Stati
 output_whole e ended shape st members scan =
     none_whole shape _ members scan (ap (λ (o : Option Capture). unless_ended ended None o) (either (is_due e st) None) ∙ either ended None)
 
--- nor does an averaging device
+-- an averaging device makes no capture
 pub average_whole : (base window : ℕ) (e : Handed) (ended : Bool) (shape : ShapeRecord) (st : Station) (members : List Member) (scan : List ℕ)
     → IsTakenWhole shape (entry_capture (Average base window) (Some e) ended shape st) members scan
 average_whole base window e ended shape st members scan =
     none_whole shape _ members scan (ap (λ (o : Option Capture). unless_ended ended None o) (either (is_due e st) None) ∙ either ended None)
 
--- and its entries change nothing
+-- the entries of an averaging device change nothing
 pub average_stays : (base window : ℕ) (e : Handed) (ended : Bool) (shape : ShapeRecord) (st : Station)
     → st ≡ entry_station (Average base window) (Some e) ended shape st
 average_stays base window e ended shape st = sym (ap (λ (x : Station). unless_ended ended st x) (either (is_due e st) st) ∙ either ended st)
@@ -100,7 +100,7 @@ out_inner j x = by x.out.writer
     by None = refl
     by (Some w) = refl
 
--- nor has an averaging device
+-- an averaging device has no inner member
 pub mean_inner : (j : ℕ) (slots : List (Option Membership)) (seats : List MeanSeat) → false ≡ list_any (is_inner_of j) (map (mean_member slots) seats)
 mean_inner j slots [] = refl
 mean_inner j slots (s ∷ ss) = mean_inner j slots ss

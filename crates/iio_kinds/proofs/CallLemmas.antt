@@ -36,7 +36,7 @@ raw_keeps d d' e = site_keeps (sampled d.site) (is_idle d) d d' e
 
 -- ---- queues
 
--- the member of that number has that mask, where there is one
+-- the member of that number has that mask, if there is one
 abbrev pub IsUnder : MemberId → Option (Membership Queue) → Type 0
 IsUnder id o = IfSome o (λ m. (m.mask.bits == id.mask) ≡ true)
 
@@ -58,7 +58,7 @@ module _ {A : Type 0} (field : Member → A) (none : A) where
       by true under h = rw under refl
       by false under h = h under
 
-  -- nothing of one that isn't
+  -- nothing is told of a member that isn't there
   pub told_absent : (id : MemberId) (ms : List (Membership Queue)) → has_member id ms ≡ false
       → option_map_or field (member_in id (map member_of ms)) none ≡ none
   told_absent id [] e = refl
@@ -89,7 +89,7 @@ scans_absent id ms e = scans_told id (map member_of ms) ∙ told_absent (λ (x :
 pub lost_absent : (id : MemberId) (ms : List (Membership Queue)) → has_member id ms ≡ false → lost_in id (map member_of ms) ≡ 0
 lost_absent id ms e = told_absent (λ (x : Member). x.lost) 0 id ms e
 
--- members' numbers differ, so the one that is there is the one of its number
+-- members' numbers differ, so a member that is there is the one of its number
 passed_on : (id : MemberId) (m : Membership Queue) (ms : List (Membership Queue))
     → AllByRecursion (λ y. (m.number == y) ≡ false) (map (λ (m : Membership Queue). m.number) ms) → (m.number == id.number) ≡ true → has_member id ms ≡ false
 passed_on id m [] apart own = refl

@@ -28,7 +28,7 @@ saturated_range f z = by (least_of f) (greatest_of f) (ends_ordered f.sign f.rea
     by : (low high : ℤ) → low ≤ℤ high → (low ≤ℤ int_max low (int_min z high)) × (int_max low (int_min z high) ≤ℤ high)
     by low high order = (omega (arith, ints, clamps), omega (arith, ints, clamps))
 
--- what stands after a channel's values
+-- what comes after a channel's values
 abbrev Split : List Format → (ℕ → ℕ → ℤ) → ℕ → ℕ → Type 0
 Split formats value c n = (rest : List ℤ)
     × (values_below formats value n ≡ values_below formats value c ++ (elements_below (value c) (format_at formats c).repeat ++ rest))
@@ -65,7 +65,7 @@ all_elements : (P : ℤ → Type 0) (value : ℕ → ℤ) → ((k : ℕ) → P (
 all_elements P value each zero = tt
 all_elements P value each (suc n) = all_push P (elements_below value n) (value n) (all_elements P value each n) (each n)
 
--- a driver's values are a capture's
+-- a driver's values are those of a capture
 pub values_capture : (shape : ShapeRecord) (d : Driver) (t : ℤ) → All (λ channel. IsInProfile channel.ty) shape.channels → IsCapture shape (values_of d shape t)
 values_capture shape d t types = record {
   types = types;

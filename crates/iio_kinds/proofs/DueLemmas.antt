@@ -1,4 +1,4 @@
--- Entries that a trigger hands out, and that are taken off.
+-- Entries that a trigger hands out, and that are removed.
 use Rattle.std.proofs.Common.{◌≡◌, ◌↔◌, ℕ, suc, Bool, true, false, IsTrue, List, [], ◌∷◌, map, Some, None, option_map, refl, sym, ap, subst, ◌∙◌, arith, cond, not}
 use Rattle.std.specs.Bool.{OnTrue}
 use Rattle.std.specs.Prelude.{◌==◌, ◌&&◌, ◌||◌, find, Contains}
@@ -28,7 +28,7 @@ due_is dev (e ∷ es) h = by (e.dev == dev) (e.in_hand) (or_left e.in_hand (has_
     by true false f i = refl
     by false b f i = i
 
--- nothing is handed out where the device has no entry
+-- nothing is handed out if the device has no entry
 pub none_due : (dev : ℕ) (out : List Entry) → has_in_hand out ≡ false → due_of dev out ≡ None → (with_in_hand dev out ≡ out) × (without_entry_of dev out ≡ out)
 none_due dev [] h n = (refl, refl)
 none_due dev (e ∷ es) h n =

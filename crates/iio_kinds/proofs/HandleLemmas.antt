@@ -20,7 +20,7 @@ use Rattle.iio_kinds.specs.Station.{station_of}
 use Rattle.iio_core.specs.Devices.{queue_waited, queue_waits}
 use Rattle.iio_core.proofs.DeviceHandlings.{handled_is as plain_handled, queues_stand}
 
--- over queues in one hand the device that a handling met is the one that stood
+-- if queues have one owner, the device that a handling met is the device before it
 pub handled_is : (e : Handed) (r : Handled) (v v' : DeviceView Queue)
     → Handles (λ (q : Queue). q.taken) (λ q. q.lost) (λ q. q.size) (λ q. q.capacity) Offers e r v v' → e.dev ≡ v.number
     → (v.standing.captures == 2 ^ 64 - 1) ≡ false → v.standing.active ≡ active_for v.standing.shape (masks_of_memberships v.standing.members)
@@ -33,7 +33,7 @@ handled_is e r v v' h own fewer ruled =
       sym is.1 ∙ ap (λ (st : Station). station_after_entry Input v.standing.shape (Some e) st) stood.0,
     )
 
--- ---- where captures have ended
+-- ---- after the last capture
 
 and_none : (b : Bool) → (b && false) ≡ false
 and_none true = refl
@@ -89,7 +89,7 @@ handles_keep e (Captured n) v v' h =
           ap (λ (s : Standing Queue). s.shape) h.2.1;
     }
 
--- how many captures are made with it
+-- how many captures have been made with it
 pub captures_are : (e : Handed) (r : Handled) (v v' : DeviceView Queue)
     → Handles (λ (q : Queue). q.taken) (λ q. q.lost) (λ q. q.size) (λ q. q.capacity) Offers e r v v'
     → v'.standing.captures ≡ counted (Some (Asked r)) v.standing.captures

@@ -1,4 +1,4 @@
--- The trigger by which a member joins, or why there is none.
+-- The trigger by which a member joins, or why it can't join by it.
 use Rattle.std.proofs.Common.{◌≡◌, ℕ, true, List, slice_get, Option, Some, None, Result, Ok, Err, refl, ap, ◌∙◌}
 use Rattle.std.specs.Prelude.{⊤}
 use Rattle.std.specs.Option.{option_map_or}

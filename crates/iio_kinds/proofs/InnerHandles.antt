@@ -1,4 +1,4 @@
--- What an entry that is handled at an input device leaves of its inner members, and of the scan that they took.
+-- What the handling of an entry at an input device makes of its inner members, and of the scan that they took.
 use Rattle.std.proofs.Common.{◌≡◌, ℕ, ◌+◌, ◌-◌, ◌^◌, Bool, true, false, List, [], ◌∷◌, map, length, Option, Some, None, refl, sym, ap, subst, ◌∙◌, arith, ℤ, FitsSigned, w64}
 use Rattle.std.specs.Prelude.{◌==◌, ◌||◌, is_some, nat_lt}
 use Rattle.std.specs.List.{AllByRecursion}
@@ -67,7 +67,7 @@ module _ (shape : ShapeRecord) (e : Handed) where
       rw (h.due, h.answers) refl in
       ap (λ (x : Station). x.members) (is ∙ ap (λ (b : Bool). entry_station Input (Some e) b shape st) h.goes_on ∙ made)
 
-  -- and which capture it is
+  -- which capture it is
   pub captured_named : (inners : List Inner) (ended : Bool) (st : Station) → HasCaptured shape e ended st
       → entry_capture Input (Some e) ended shape (named inners st) ≡ Some (taken_by shape e st)
   captured_named inners ended st h =
@@ -75,7 +75,7 @@ module _ (shape : ShapeRecord) (e : Handed) where
       let due : is_due e (named inners st) ≡ true = same ∙ h.due in
       ap (λ (b : Bool). entry_capture Input (Some e) b shape (named inners st)) h.goes_on ∙ rw (due, h.answers) refl
 
-  -- where the answer is no capture, none is made, and the members stay
+  -- if the answer is no capture, none is made, and the members stay
   pub idle_capture : (r : Handled) (inners : List Inner) (ended : Bool) (st : Station) → ((n : ℕ) → r ≡ Captured n → ⊥)
       → Some (Asked r) ≡ entry_became Input (Some e) ended st → entry_capture Input (Some e) ended shape (named inners st) ≡ None
   idle_capture r inners ended st none answer = by ended (is_due e st) (ask_fails st.site.driver) refl refl answer
@@ -105,7 +105,7 @@ module _ (shape : ShapeRecord) (e : Handed) where
           absurd (none (length st.members)
           (let made : entry_became Input (Some e) false st ≡ Some (Asked (Captured (length st.members))) = rw (due, fails) refl in let both = is ∙ made in cc))
 
--- ---- what the inner members are then
+-- ---- the inner members afterwards
 
 module _ (shape shape' : ShapeRecord) (inners : List Inner) (room : List ℕ) (ms ms' : List (Membership Queue)) (c : Capture)
     (same : shape' ≡ shape) (sound : HasInners shape ms inners room) (told : map member_of ms' ≡ map (offered_to shape c) (map member_of ms)) where
@@ -114,7 +114,7 @@ module _ (shape shape' : ShapeRecord) (inners : List Inner) (room : List ℕ) (m
       told_there ms' inners (there_by (map member_of ms) (map member_of ms') inners
       (λ i has. ap (λ (xs : List Member). has_number i xs) told ∙ offered_number shape c inners i (map member_of ms) ∙ has) (there_told ms inners sound.there))
 
-  -- each has its number and its mask still
+  -- each still has its number and its mask
   offered_keeps : (x : Member) → ((offered_to shape c x).number ≡ x.number) × ((offered_to shape c x).mask ≡ x.mask)
   offered_keeps x = by (nat_lt (length x.scans) x.capacity) refl
     where
@@ -142,7 +142,7 @@ module _ (shape shape' : ShapeRecord) (inners : List Inner) (room : List ℕ) (m
       subst (λ (s : ShapeRecord). AreWhole s inners ms') (sym same)
       (whole_back ms' (subst AreWholeTold (sym told) (whole_offered (map member_of ms) (idle_told shape inners ms sound.idle))))
 
-  -- and once each has taken its scan, what held holds again
+  -- after each has taken its scan, what held holds again
   pub taken_facts : (shape'' : ShapeRecord) (ms'' : List (Membership Queue)) (room' : List ℕ) → shape'' ≡ shape
       → map member_of ms'' ≡ map (with_taken inners) (map member_of ms') → length room' ≡ length room → HasInners shape'' ms'' inners room'
   taken_facts shape'' ms'' room' same'' told'' sized =

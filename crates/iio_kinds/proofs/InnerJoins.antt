@@ -1,4 +1,4 @@
--- Members that come to an input device and go, beside its inner members.
+-- Members that join and leave an input device that has inner members.
 use Rattle.std.proofs.Common.{◌≡◌, ℕ, ◌+◌, ◌-◌, ◌^◌, ◌<◌, Bool, true, false, List, [], ◌∷◌, ◌++◌, map, length, Option, Some, None, Result, Ok, Err, refl, sym, ap, subst, ◌∙◌, arith, cond, option_map}
 use Rattle.std.specs.Prelude.{◌==◌, ◌||◌, All, bit_or, not, find, is_none, is_some}
 use Rattle.std.specs.List.{AllByRecursion, IsDistinct, list_any}
@@ -78,13 +78,13 @@ own_numbers (i ∷ is) = (
       (λ k e. or_right (i.number == k.number) (list_any (λ (j : Inner). j.number == k.number) is) e) (own_numbers is),
 )
 
--- each of them is the inner member of its number
+-- each inner member is that of its number
 pub own_inner : (inners : List Inner) → AllByRecursion (λ (i : Inner). is_some (inner_at inners i.number) ≡ true) inners
 own_inner inners =
     all_so (λ (i : Inner). list_any (λ (k : Inner). k.number == i.number) inners ≡ true) (λ (i : Inner). is_some (inner_at inners i.number) ≡ true) inners
     (λ i e. numbered inners i.number ∙ e) (own_numbers inners)
 
--- ---- one that isn't an inner member leaves
+-- ---- a member that isn't an inner one leaves
 
 module _ (inners : List Inner) (number : ℕ) (free : inner_at inners number ≡ None) where
   kept_number : (i : ℕ) (ms : List (Membership Queue)) → is_some (inner_at inners i) ≡ true → has_number i (map member_of ms) ≡ true
@@ -118,7 +118,7 @@ left_facts shape shape' inners room ms ms' number same told free sound =
     h))
     (λ h. subst (λ (xs : List Member). AreThereTold xs inners) (sym told) (there_left inners number free inners ms (own_inner inners) h))
 
--- ---- one that isn't an inner member gets another mask
+-- ---- a member that isn't an inner one gets another mask
 
 module _ (shape : ShapeRecord) (inners : List Inner) (number mask capacity : ℕ) (free : inner_at inners number ≡ None) where
   masked_idle : (ms : List (Membership Queue)) → AreIdleTold shape inners (map member_of ms)
@@ -147,7 +147,7 @@ module _ (shape : ShapeRecord) (inners : List Inner) (number mask capacity : ℕ
       by true rest = ap (λ (b : Bool). (m.number == n) || b) rest
       by false rest = ap (λ (b : Bool). (m.number == n) || b) rest
 
--- the members that such a call leaves
+-- the members after such a call
 pub acts_members : {A : Type 0} (change : Station → Station) (r : Result A Errno) (result : Result A No) (old new : Station) → Acts change r result old new
     → (b : Bool) × (new.members ≡ cond b (change old).members old.members)
 acts_members change (Ok a) (Ok b) old new h = (true, ap (λ (st : Station). st.members) h.1)
@@ -181,7 +181,7 @@ remasked_facts shape shape' inners room ms ms' number mask capacity same r resul
         (λ i e. masked_number shape inners number mask capacity free i ms ∙ e) h
     there false h = h
 
--- ---- one that joins
+-- ---- a member joins
 
 below_told : (next : ℕ) (ms : List (Membership Queue)) → AllByRecursion (λ (m : Membership Queue). m.number < next) ms
     → AllByRecursion (λ (x : Member). x.number < next) (map member_of ms)
@@ -196,7 +196,7 @@ number_below n next (x ∷ xs) all e = by (x.number == n) refl e (λ f. number_b
     by true own f later = let same : x.number ≡ n = eqb-true x.number n own in subst (λ (k : ℕ). k < next) same all.0
     by false own f later = later f
 
--- the next number is none of theirs
+-- no inner member has the next number
 next_none : (next : ℕ) (xs : List Member) (inners : List Inner) → AllByRecursion (λ (x : Member). x.number < next) xs → AreThereTold xs inners
     → inner_at inners next ≡ None
 next_none next xs [] all there = refl
@@ -220,7 +220,7 @@ module _ (mask : Mask) (capacity number : ℕ) (shape : ShapeRecord) (inners : L
       (j.0, ap (named inners) j.1 ∙ joined_named mask.bits capacity inners old none, j.2 ∙ sym (place_taken_named inners number old trigger))
   joins_named (Err refusal) old new trigger trigger' none j = (j.0, ap (named inners) j.1, j.2)
 
--- what holds of the members of a device whose members are those, with one more or without
+-- what holds of a device whose members are those, with another one or without it
 abbrev pub MoreOrSame : (more : Member) → (old new : List Member) → Type 0
 MoreOrSame more old new = (b : Bool) × (new ≡ cond b (old ++ more ∷ []) old)
 
@@ -255,7 +255,7 @@ module _ (shape shape' : ShapeRecord) (inners : List Inner) (room : List ℕ) (m
       there true h = more_there inners h
       there false h = h
 
--- the number of the next member is none of the inner members'
+-- no inner member has the number of the next member
 pub next_free : (shape : ShapeRecord) (captures next : ℕ) (inners : List Inner) (room : List ℕ) (ms : List (Membership Queue))
     → All (IsMember (λ (q : Queue). q.taken) (λ q. q.lost) (λ q. q.size) shape captures next) ms
     → HasInners shape ms inners room → inner_at inners next ≡ None
@@ -287,7 +287,7 @@ inner_last (i ∷ is) next j none = by (i.number == next) none (λ n. inner_last
     by true n later = absurd (cc)
     by false n later = later n
 
--- those that were there are told as before
+-- the inner members that were there are told as before
 told_before : (inners : List Inner) (next j : ℕ) (xs : List Member) → AllByRecursion (λ (x : Member). x.number < next) xs
     → map (with_inner_name (inners ++ record { number = next; average = j } ∷ [])) xs ≡ map (with_inner_name inners) xs
 told_before inners next j [] all = refl
@@ -311,7 +311,7 @@ module _ (mask capacity j : ℕ) (inners : List Inner) (st : Station) (below : A
         empty_named inners st.members,
       ) refl
 
--- ---- what holds once an inner member has joined
+-- ---- what holds after an inner member has joined
 
 averages_apart : (j : ℕ) (is : List Inner) → list_any (λ (i : Inner). i.average == j) is ≡ false
     → AllByRecursion (λ z. (j == z) ≡ false) (map average_of is)
@@ -324,7 +324,7 @@ averages_apart j (i ∷ is) none = (
 next_other : (n next : ℕ) → n < next → (next == n) ≡ false
 next_other n next less = grind (arith, nat_tests)
 
--- a room of that size serves as well
+-- a room of that size will do as well
 pub room_facts : (shape : ShapeRecord) (inners : List Inner) (room room' : List ℕ) (ms : List (Membership Queue))
     → length room' ≡ scan_size shape (full_mask shape) → HasInners shape ms inners room → HasInners shape ms inners room'
 room_facts shape inners room room' ms sized sound = record {
@@ -387,7 +387,7 @@ told_below shape captures next ms each =
     below_told next ms (all_so (IsMember (λ (q : Queue). q.taken) (λ q. q.lost) (λ q. q.size) shape captures next) (λ (m : Membership Queue). m.number < next)
     ms (λ m h. h.numbered) (recursion_from_All (IsMember (λ (q : Queue). q.taken) (λ q. q.lost) (λ q. q.size) shape captures next) ms each))
 
--- an inner member's join, as it is told
+-- an inner member's joining, as it is told
 module _ (mask : Mask) (j number : ℕ) (shape : ShapeRecord) (inners : List Inner) where
   pub inner_joins : (seat : Seat) (old new : Station) (trigger trigger' : State) (capacity : ℕ) → inner_at inners old.next ≡ None
       → AllByRecursion (λ (x : Member). x.number < old.next) old.members
@@ -416,7 +416,7 @@ masks_below : (n : ℕ) (ms : List (Membership Queue)) → AllByRecursion (λ (m
 masks_below n [] all = pow_pos n
 masks_below n (m ∷ ms) all = or_lt n m.mask.bits (union_of_all (masks_of (map member_of ms))) all.0 (masks_below n ms all.1)
 
--- no member's mask adds to it
+-- no member's mask adds to the mask of all channels
 pub served_alone : (shape : ShapeRecord) (captures next : ℕ) (inners : List Inner) (ms : List (Membership Queue)) (mask : ℕ)
     → All (IsMember (λ (q : Queue). q.taken) (λ q. q.lost) (λ q. q.size) shape captures next) ms → mask ≡ full_mask shape
     → is_without_union shape (masks_of (map (with_inner_name inners) (map member_of ms))) mask ≡ is_without_union shape [] mask
@@ -447,11 +447,11 @@ seat_state_facts shape ms inners room none types = subst (λ (is : List Inner). 
   types = types;
 })
 
--- a room that couldn't be made longer stays
+-- a room that couldn't be made longer stays as it is
 pub unresized : (ok failed : Bool) (old more new : List ℕ) → new ≡ cond ok more old → ok ≡ not failed → failed ≡ true → new ≡ old
 unresized ok failed old more new is other err = is ∙ ap (λ (b : Bool). cond b more old) (other ∙ ap (λ (b : Bool). not b) err)
 
--- ---- an inner member is nobody's to remask
+-- ---- an inner member can't be remasked by a seat
 
 refused_by : (plugged none : Bool) (count : ℕ) (rest : List (Bool × Errno)) → plugged ≡ true → none ≡ true
     → unless_refused count (first_refusal ((not plugged, ENODEV) ∷ (none, EBADF) ∷ rest)) ≡ Err EBADF

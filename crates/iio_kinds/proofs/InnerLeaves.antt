@@ -1,4 +1,4 @@
--- The inner member of an averaging device, which is found and leaves.
+-- The inner member of an averaging device is found, and leaves.
 use Rattle.std.proofs.Common.{◌≡◌, ℕ, ◌+◌, ◌<◌, ◌≤◌, Bool, true, false, List, [], ◌∷◌, ◌++◌, map, Option, Some, None, refl, sym, ap, subst, ◌∙◌, arith, cond, option_map}
 use Rattle.std.specs.Prelude.{◌==◌, ◌&&◌, ◌||◌, ◌≢◌, not, filter, find, is_some}
 use Rattle.std.specs.List.{AllByRecursion, IsDistinct, list_any}
@@ -54,7 +54,7 @@ own_average [] apart = tt
 own_average (i ∷ is) apart = (rw (same_number i.number) refl, widened i is is (own_average is apart.1) apart.0)
 
 module _ (inners : List Inner) (j : ℕ) where
-  -- a member of that number is told as its inner one
+  -- a member of that number is told as its inner member
   named_any : (n : ℕ) (xs : List Member) → has_number n xs ≡ true → inner_at inners n ≡ Some j
       → list_any (is_inner_of j) (map (with_inner_name inners) xs) ≡ true
   named_any n [] has e = absurd (cc)
@@ -103,12 +103,12 @@ told_any inners j (x ∷ xs) e = by (is_inner_of j (with_inner_name inners x)) r
     by true own h later = at_average inners x.number j own
     by false own h later = later h
 
--- whether there is one, as it is told
+-- whether there is an inner member, as it is told
 pub any_inner : (inners : List Inner) (j : ℕ) (xs : List Member) → AreThereTold xs inners → AreApart (map number_of inners)
     → list_any (λ (i : Inner). i.average == j) inners ≡ list_any (is_inner_of j) (map (with_inner_name inners) xs)
 any_inner inners j xs there once = bools _ _ (any_told inners j xs inners (own_average inners once) there) (told_any inners j xs)
 
--- ---- there is none
+-- ---- if there is none
 
 module _ (j : ℕ) where
   none_kept : (xs : List Member) → list_any (is_inner_of j) xs ≡ false → filter (λ (x : Member). not (is_inner_of j x)) xs ≡ xs
@@ -162,7 +162,7 @@ pub nobody_inner : (inners : List Inner) (j : ℕ) (st : Station) → number_by 
     → named inners st ≡ inner_gone j (named inners st)
 nobody_inner inners j st e there once = nobody_gone j (named inners st) (sym (any_inner inners j st.members there once) ∙ number_none inners j e)
 
--- ---- there is one
+-- ---- if there is one
 
 all_others : (j : ℕ) (is : List Inner) → AllByRecursion (λ y. (j == y) ≡ false) (map average_of is) → inners_without j is ≡ is
 all_others j [] apart = refl
@@ -170,7 +170,7 @@ all_others j (i ∷ is) apart =
     let other : (i.average == j) ≡ false = eq_flips i.average j ∙ apart.0 in
     rw other (ap (λ (xs : List Inner). i ∷ xs) (all_others j is apart.1))
 
--- it is the one member whose averaging device is that
+-- it is the only member whose averaging device is that one
 module _ (j n : ℕ) where
   found_in : (P : ℕ → Type 0) (inners : List Inner) → number_by j inners ≡ Some n → AllByRecursion P (map number_of inners) → P n
   found_in P [] e all = absurd (cc)
@@ -213,7 +213,7 @@ module _ (j n : ℕ) where
           q ∙ sym other
       by false false q r f later = later f
 
-  -- the others are told as before
+  -- the other members are told as before
   kept_inner : (inners : List Inner) (k : ℕ) → number_by j inners ≡ Some n → (k == n) ≡ false → AreApart (map average_of inners)
       → inner_at (inners_without j inners) k ≡ inner_at inners k
   unfolding IsDistinct
@@ -312,7 +312,7 @@ module _ (j n : ℕ) where
         ∙ ap (λ (w : Window). window_left (map (with_inner_name inners) st.members)
         (filter (λ (x : Member). not (is_inner_of j x)) (map (with_inner_name inners) st.members)) w) (sym new))
 
-    -- ---- what holds then
+    -- ---- what holds afterwards
 
     kept_number : (i : ℕ) (ms : List (Membership Queue)) → (i == n) ≡ false → has_number i (map member_of ms) ≡ true
         → has_number i (without n (map member_of ms)) ≡ true
@@ -329,7 +329,7 @@ module _ (j n : ℕ) where
         by false true q r h later = later h
         by false false q r h later = or_right (m.number == i) (has_number i (without n (map member_of ms))) (later h)
 
-    -- each of those that are left has another number
+    -- each inner member that is left has another number
     others_left : (is : List Inner) → AllByRecursion (λ (k : Inner). inner_at inners k.number ≡ Some k.average) is
         → AllByRecursion (λ (k : Inner). (k.number == n) ≡ false) (inners_without j is)
     others_left [] own = tt
@@ -384,7 +384,7 @@ pub numbers_told : (ms : List (Membership Queue)) → AreApart (map (λ (m : Mem
     → AreApart (map (λ (x : Member). x.number) (map member_of ms))
 numbers_told ms apart = subst AreApart (sym (numbers_same ms)) apart
 
--- a place is given back alike
+-- a place is freed in the same way
 pub place_between : (inners inners' : List Inner) (number : ℕ) (before after : Station) (s : State)
     → place_left number (named inners before) (named inners' after) s ≡ place_left number before after s
 place_between inners inners' number before after s = rw (empty_named inners before.members, empty_named inners' after.members) refl

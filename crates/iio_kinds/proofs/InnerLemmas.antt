@@ -1,4 +1,4 @@
--- An input device's inner members: what the calls of the device make of it, with these told as such.
+-- An input device's inner members: what the calls of the device make of it, if these are told as inner ones.
 use Rattle.std.proofs.Common.{◌≡◌, ℕ, ◌+◌, ◌-◌, ◌*◌, ◌<◌, ◌≤◌, ◌^◌, Bool, true, false, List, [], ◌∷◌, ◌++◌, map, take, drop, length, Option, Some, None, Result, Ok, Err, refl, sym, ap, subst, ◌∙◌, cond, option_map}
 use Rattle.std.specs.Prelude.{◌==◌, ◌&&◌, ◌||◌, ◌≢◌, not, find, is_none, is_some, ℤ, ⊤}
 use Rattle.std.specs.List.{AllByRecursion, flat_map, list_any}
@@ -39,7 +39,7 @@ use Rattle.iio_kinds.specs.Places.{is_hosted, place_left, place_taken}
 use Rattle.iio_kinds.specs.Remasking.{remask_answer}
 use Rattle.iio_kinds.specs.Station.{member_of}
 
--- ---- a device with its inner members told as such
+-- ---- a device with its inner members told as inner ones
 
 abbrev pub named : List Inner → Station → Station
 named inners st = record st { members = map (with_inner_name inners) st.members }
@@ -172,7 +172,7 @@ module _ (inners : List Inner) (number : ℕ) (free : inner_at inners number ≡
           ap (λ (ys : List Member). record (with_inner_name inners (member_of m)) { mask = mask; capacity = capacity; scans = []; lost = 0 } ∷ ys) rest
       by false rest = ap (λ (ys : List Member). with_inner_name inners (member_of m) ∷ ys) rest
 
--- one that is: nobody's seat has it
+-- a number that is an inner member's: no seat has it
 module _ (inners : List Inner) (number : ℕ) (own : is_some (inner_at inners number) ≡ true) where
   seat_none : (m : Membership Queue) → is_seat_of number (with_inner_name inners (member_of m)) ≡ false
   seat_none m = by (m.number == number) refl
@@ -204,7 +204,7 @@ module _ (inners : List Inner) (number : ℕ) (own : is_some (inner_at inners nu
   stays_by [] w = refl
   stays_by (x ∷ xs) w = refl
 
-  -- so that no leaving of it changes anything
+  -- hence no leaving of it changes anything
   pub nobody_leaves : (st : Station) (ms : List (Membership Queue)) → st.members ≡ map member_of ms
       → named inners st ≡ station_after_leave number (named inners st)
   nobody_leaves st ms is =
@@ -220,7 +220,7 @@ module _ (inners : List Inner) (number : ℕ) (own : is_some (inner_at inners nu
 module _ (inners : List Inner) where
   -- ---- calls
 
-  -- a call that does the same to both, where it is answered alike
+  -- a call that does the same to both, if it is answered alike
   pub acts_named : {A : Type 0} (change : Station → Station) (r r' : Result A Errno) (result : Result A No) (old new : Station) → r' ≡ r
       → change (named inners old) ≡ named inners (change old)
       → Acts change r result old new → Acts change r' result (named inners old) (named inners new)
@@ -241,7 +241,7 @@ module _ (inners : List Inner) where
   turns_named r (Err (NoErrno e)) after old new h = (h.0, ap (named inners) h.1)
   turns_named r (Err NoMem) after old new h = ap (named inners) h
 
-  -- where a member can join by
+  -- the trigger by which a member can join
   pub refusals_named : (lacks : Bool) (kind : Kind) (shape : ShapeRecord) (st : Station) (mask : ℕ)
       → any_refusals lacks kind shape (named inners st) mask ≡ any_refusals lacks kind shape st mask
   refusals_named lacks kind shape st mask = rw (empty_named inners st.members, masks_named inners st.members) refl
@@ -265,7 +265,7 @@ module _ (inners : List Inner) where
   pub place_taken_named : (number : ℕ) (before : Station) (s : State) → place_taken number (named inners before) s ≡ place_taken number before s
   place_taken_named number before s = rw (empty_named inners before.members) refl
 
--- ---- seats' calls, of a number that is no inner member's
+-- ---- the calls of seats, for a number that is no inner member's
 
 module _ (inners : List Inner) (number : ℕ) (free : inner_at inners number ≡ None) (st : Station) (ms : List (Membership Queue))
     (of : st.members ≡ map member_of ms) where
@@ -351,7 +351,7 @@ module _ (inners : List Inner) (number : ℕ) (free : inner_at inners number ≡
       ≡ is_none (member_in (record { number = number; mask = own }) xs)) (sym of) (none_named inners number free own ms) in
       rw (scans_same own, none, without_same, masks_named inners (without number st.members)) refl
 
--- ---- what always holds of them
+-- ---- what always holds of inner members
 
 -- an idle member as it is told
 pub record IsIdleTold (shape : ShapeRecord) (x : Member) : Type 0 where
@@ -392,7 +392,7 @@ pub told_there : (ms : List (Membership Queue)) (inners : List Inner) → AreThe
 told_there ms [] all = tt
 told_there ms (i ∷ is) all = (sym (live_told i.number ms) ∙ all.0, told_there ms is all.1)
 
--- the members that are told keep it
+-- the members that are told keep it so
 pub facts_by : (shape shape' : ShapeRecord) (inners : List Inner) (room : List ℕ) (ms ms' : List (Membership Queue)) → shape' ≡ shape
     → HasInners shape ms inners room
     → (AreIdleTold shape inners (map member_of ms) → AreIdleTold shape inners (map member_of ms'))
@@ -430,7 +430,7 @@ turns_stay r (Ok x) after old new stays h = ap (λ (st : Station). st.members) h
 turns_stay r (Err (NoErrno e)) after old new stays h = ap (λ (st : Station). st.members) h.1 ∙ stays
 turns_stay r (Err NoMem) after old new stays h = ap (λ (st : Station). st.members) h
 
--- scans of a member are taken: for an inner one none waits
+-- scans of a member are taken: none waits for an inner one
 module _ (shape : ShapeRecord) (inners : List Inner) (id : MemberId) (n : ℕ) where
   drop_none : (scans : List (List ℕ)) → scans ≡ [] → drop n scans ≡ []
   drop_none scans e = ap (λ (xs : List (List ℕ)). drop n xs) e ∙ drop-nil n
@@ -470,7 +470,7 @@ module _ (shape shape' : ShapeRecord) (inners : List Inner) (room : List ℕ) (m
       (there_by (map member_of ms) (with_scans id (drop n (scans_in id (map member_of ms))) (map member_of ms)) inners
       (λ i e. number_taken i id (drop n (scans_in id (map member_of ms))) (map member_of ms) ∙ e) h))
 
-  -- a take keeps what holds
+  -- a take keeps what always holds
   pub take_facts : (id : MemberId) (took : Took) (scan : List ℕ) (old new : Station) → old.members ≡ map member_of ms → new.members ≡ map member_of ms'
       → TakesAt id took scan old new → HasInners shape' ms' inners room
   take_facts id Scan scan old new was is h =
@@ -554,7 +554,7 @@ pub none_there : (o : Option ℕ) → is_some o ≡ false → o ≡ None
 none_there None e = refl
 none_there (Some k) e = absurd (cc)
 
--- nobody has left
+-- no member has left
 pub place_stays : (number : ℕ) (st : Station) (s : State) → s ≡ place_left number st st s
 place_stays number st s = by (is_empty st.members)
   where

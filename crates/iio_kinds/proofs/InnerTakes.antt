@@ -1,4 +1,4 @@
--- An entry that is handled at an input device with inner members: each takes its scan of the capture at once.
+-- The handling of an entry at an input device with inner members: each takes its scan of the capture at once.
 use Rattle.std.proofs.Common.{◌≡◌, ℕ, ◌+◌, ◌-◌, ◌^◌, ◌<◌, ◌≤◌, Bool, true, false, List, [], ◌∷◌, ◌++◌, map, drop, length, Option, Some, None, refl, sym, ap, subst, ◌∙◌, arith, cond, option_map}
 use Rattle.std.specs.Prelude.{◌==◌, ◌&&◌, ◌||◌, find, is_some, nat_lt, ℤ, ⊤}
 use Rattle.std.specs.List.{AllByRecursion, IsDistinct}
@@ -28,7 +28,7 @@ use Rattle.iio_kinds.specs.Station.{member_of}
 
 -- ---- one member
 
--- a member that is nobody's inner one, as it is told before its name
+-- a member that isn't told as an inner one
 abbrev pub IsPlain : Member → Type 0
 IsPlain x = x.inner ≡ None
 
@@ -63,7 +63,7 @@ module _ (shape : ShapeRecord) (c : Capture) (inners : List Inner) where
   offer_number true whose x = refl
   offer_number false whose x = refl
 
-  -- one that takes its scan at once is left as one that is told as an inner member
+  -- a member that takes its scan at once is left as one that is told as an inner member
   taken_one : (x : Member) → x.inner ≡ None
       → with_inner_name inners (with_taken inners (offered_to shape c x)) ≡ offered_to shape c (with_inner_name inners x)
   taken_one x plain =
@@ -101,7 +101,7 @@ module _ (shape : ShapeRecord) (c : Capture) (inners : List Inner) where
           let own = idle.0 (ap (λ (n : ℕ). is_some (inner_at inners n)) (sym (number (nat_lt (length x.scans) x.capacity) refl)) ∙ e) in
           ap (λ (y : Member). y.scans) (offered_idle x own plain.0)
 
-  -- and is idle again then
+  -- after that it is idle again
   pub idle_again : (xs : List Member) → AreIdleTold shape inners xs → AllByRecursion IsPlain xs
       → AreIdleTold shape inners (map (with_taken inners) (map (offered_to shape c) xs))
   idle_again [] idle plain = tt
@@ -156,7 +156,7 @@ module _ (shape : ShapeRecord) (inners : List Inner) (e : Handed) (ended : Bool)
       (taken_all shape taken inners st.members plain)
       ∙ rw (masks_named inners st.members) refl
 
-  -- where there was a capture, once its scans are taken
+  -- if there was a capture: after its scans are taken
   pub capture_named : (n : ℕ) (new : Station) → Some (Asked (Captured n)) ≡ entry_became Input (Some e) ended st
       → new ≡ entry_station Input (Some e) ended shape st
       → named inners (all_taken inners new) ≡ entry_station Input (Some e) ended shape (named inners st)
@@ -180,7 +180,7 @@ module _ (shape : ShapeRecord) (inners : List Inner) (e : Handed) (ended : Bool)
           = rw (due_named ∙ due, fails) refl in
           ap (λ (x : Station). named inners (all_taken inners x)) (is ∙ made) ∙ captured_named ∙ sym then
 
-  -- and where there was none
+  -- if there was none
   pub idle_named : (r : Handled) (new : Station) → ((n : ℕ) → r ≡ Captured n → ⊥) → Some (Asked r) ≡ entry_became Input (Some e) ended st
       → new ≡ entry_station Input (Some e) ended shape st
       → named inners new ≡ entry_station Input (Some e) ended shape (named inners st)
@@ -211,7 +211,7 @@ module _ (shape : ShapeRecord) (inners : List Inner) (e : Handed) (ended : Bool)
       by true = refl
       by false = rw (empty_named inners st.members, length-map st.members (with_inner_name inners)) refl
 
--- ---- one after another
+-- ---- one take after another
 
 -- the member of a number without its first scan
 abbrev pub one_taken : ℕ → Member → Member

@@ -72,7 +72,7 @@ module _ (states : List State) (d : DeviceView Queue) (mask : ℕ) (good : is_ba
   pub hosts_ok : (trigger : ℕ) → Hosts states d mask (Ok trigger) → HostsAny states Input d.number d.standing.shape (station_of d) mask (Ok trigger)
   hosts_ok trigger h = (h.0, h.1, input_refusals None h.2)
 
--- where there is no refusal there is no fault
+-- if there is no refusal, there is no fault
 none_back : (gone a b c : Bool) → first_refusal ((gone, ENODEV) ∷ (false, EBUSY) ∷ join_refusals a b c) ≡ None
     → first_refusal ((gone, fault.Gone) ∷ (false, fault.BadMask) ∷ member_faults a b c) ≡ None
 none_back true a b c e = absurd (cc)
@@ -90,7 +90,7 @@ may_join d mask s good e =
     (is_full_view d (Some s))
     (rw (masks_are d.standing.members, is_empty-map member_of d.standing.members) at e))
 
--- the device with a member more
+-- the device with another member
 pub joined_is : (mask : Mask) (capacity : ℕ) (d : DeviceView Queue)
     → station_of (device_joined mask (first_queue d.standing.shape mask capacity) d) ≡ station_after_join mask.bits capacity false None (station_of d)
 joined_is mask capacity d =

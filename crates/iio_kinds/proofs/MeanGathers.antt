@@ -69,7 +69,7 @@ unstamped shape mask values t t' none wide =
     zero_more : (n : ℕ) → n + 0 ≡ n
     zero_more n = omega arith
 
--- so that a mean's scan is the one of the capture's moment
+-- hence a mean's scan is that of the capture's moment
 pub mean_scan : ReadingLaw → (shape : ShapeRecord) (c : Capture) (scan : List ℕ) → IsScanOf shape c scan → (mask : ℕ) (values : List ℤ)
     → length values ≡ width_of shape
     → scan_of shape mask values (moment_in shape scan) ≡ scan_of shape mask values c.moment
@@ -104,7 +104,7 @@ few_offered shape captures s (Some m) h = h.offered
 pub values_wide : (shape : ShapeRecord) (scan : List ℕ) → length (values_in shape scan) ≡ width_of shape
 values_wide shape scan = length-values shape (value_in shape scan)
 
--- it has a member exactly where it has a seat
+-- it has a member exactly if it has a seat
 module _ (a : AverageRecord) (captures next starts : ℕ) (seats : List MeanSeat) (sound : IsSeating a captures next starts seats) where
   pub member_some : has_member a.seats ≡ true → is_empty seats ≡ false
   member_some e = by (is_empty seats) (sym e ∙ seated_some a.shape captures next a.seats seats sound.all sound.seated)
@@ -133,7 +133,7 @@ module _ (a a' : AverageRecord) (captures next starts : ℕ) (seats : List MeanS
   there : is_empty (map (mean_member a.seats) seats) ≡ false
   there = empty_map (mean_member a.seats) seats ∙ some
 
-  -- each queue was offered no more than there were means
+  -- each queue was offered at most as many scans as there were means
   offered_at : (n : ℕ) (ss : List MeanSeat) → list_any (λ (s : MeanSeat). s.slot == n) ss ≡ true → AreSeated a.shape captures next a.seats ss
       → IfSome (member_at n a.seats) (λ (m : Membership). m.queue.taken + m.queue.lost ≤ captures)
   offered_at n [] e all = absurd (cc)
@@ -182,7 +182,7 @@ module _ (a a' : AverageRecord) (captures next starts : ℕ) (seats : List MeanS
         ∙ ap (λ (xs : List ℤ). (let st : Station = record (told a plugged captures totals) { window = window_with a.window xs } in st))
         (values_read law a.shape c scan is))
 
-  -- ---- one that fills it
+  -- ---- a capture that fills one
 
   module _ (count : ℕ) (adds : Adds scan (Some count) a a') where
     abbrev means : List ℤ
@@ -276,7 +276,7 @@ module _ (a a' : AverageRecord) (captures next starts : ℕ) (seats : List MeanS
           (let st : Station = record (told a plugged captures totals) { captures = captures + 1; members = ms; window = no_window } in st))
           (offered_all seats sound.seated))
 
--- without a member nothing changes
+-- if there is no member, nothing changes
 pub none_gathered : (a : AverageRecord) (plugged : Bool) (starts next captures : ℕ) (totals : Totals) (seats : List MeanSeat) (base : ℕ) (c : Capture)
     → is_empty seats ≡ true
     → told_with a plugged starts next captures totals (map (mean_member a.seats) seats)
@@ -285,7 +285,7 @@ none_gathered a plugged starts next captures totals seats base c e = let none = 
 
 -- ---- a look at its thresholds
 
--- it has none, so that a look changes nothing
+-- it has no thresholds, so a look changes nothing
 pub mean_look_stays : (d : MeanDevice) (t : ℤ) → mean_station d ≡ station_after_look d.average.shape t (mean_station d)
 mean_look_stays d t =
     by d.plugged

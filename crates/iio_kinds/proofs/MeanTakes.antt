@@ -29,7 +29,7 @@ use Rattle.iio_kinds.proofs.TakeLemmas.{given_bytes, none_taken}
 
 -- ---- queues that change
 
--- what stands at a slot has the mask, the capacity and the size that it had, and was offered at most so many scans more
+-- a slot keeps the mask, the capacity and the size that it had, and was offered at most that number of scans more
 abbrev pub IsLike : (more : ℕ) → (old new : Option Membership) → Type 0
 IsLike k None new = new ≡ None
 IsLike k (Some m) None = ⊥
@@ -137,7 +137,7 @@ module _ (id : MemberId) (slot : ℕ) where
 
   module _ (slots slots' : List (Option Membership)) (scans : List (List ℕ)) (same : KeepsOthers slot slots slots')
       (left : scans_at (member_at slot slots') ≡ scans) (lost : lost_at (member_at slot slots') ≡ lost_at (member_at slot slots)) where
-    -- its scans are changed
+    -- the member's scans are changed
     pub scans_changed : (seats : List MeanSeat) → slot_at id seats ≡ Some slot → AreApart (map slot_of seats)
         → map (mean_member slots') seats ≡ with_scans id scans (map (mean_member slots) seats)
     unfolding IsDistinct
@@ -193,7 +193,7 @@ module _ (id : MemberId) (slot : ℕ) (shape : ShapeRecord) (captures next : ℕ
           own.size ∙ ap (scan_size shape) (eqb-true s.mask.bits id.mask (right (s.number == id.number) (s.mask.bits == id.mask) q))
       by false q g later = later g
 
--- all that stands at the slots is the same
+-- everything in the slots is the same
 pub all_told : (slots slots' : List (Option Membership)) → ((n : ℕ) → member_at n slots' ≡ member_at n slots) → (seats : List MeanSeat)
     → map (mean_member slots') seats ≡ map (mean_member slots) seats
 all_told slots slots' same [] = refl
@@ -221,7 +221,7 @@ module _ (id : MemberId) (slots : List (Option Membership)) where
       by true f later = absurd (cc)
       by false f later = later f
 
--- ---- its counts
+-- ---- the member's counts
 
 pub waiting_told : (id : MemberId) (slot : ℕ) (slots : List (Option Membership)) (seats : List MeanSeat) → slot_at id seats ≡ Some slot
     → unwrap_or (option_map (λ (m : Membership). length m.queue.scans) (member_at slot slots)) 0 ≡ length (scans_in id (map (mean_member slots) seats))
@@ -260,12 +260,12 @@ no_scans id most took before after old new e none same answer =
     nothing_by (λ t. TakesScansAt id most t before after old new) old.site.plugged took (answer ∙ ap (λ (st : Station). nothing_at st) same)
     (λ p. (e, none, p, same)) (λ p. (e, none, p, same))
 
--- what stands in a text from a place on
+-- the text from a place on
 pub rest_is : (place : ℕ) (text : List ℕ) → take (length text - place) (drop place text) ≡ drop place text
 rest_is place text =
     ap (λ (n : ℕ). take n (drop place text)) (sym (length-drop place text)) ∙ take_all (length (drop place text)) (drop place text) (omega arith)
 
--- a queue whose scans alone changed
+-- a queue with only its scans changed
 same_membership : (m x : Membership) → x ≡ record m { queue = x.queue } → x.queue ≡ m.queue → x ≡ m
 same_membership m x e q = e ∙ ap (λ (k : Queue). (let y : Membership = record m { queue = k } in y)) q
 
@@ -275,7 +275,7 @@ module _ (a a' : AverageRecord) (id : MemberId) (slot captures next starts : ℕ
   told x t = told_with x plugged starts next captures t (map (mean_member x.seats) seats)
 
   module _ (is : a' ≡ record a { seats = a'.seats }) (others : KeepsOthers slot a.seats a'.seats) where
-    -- the queue at the slot as it was, and as it is
+    -- the queue in the slot before and after
     module _ (m x : Membership) (old : member_at slot a.seats ≡ Some m) (new : member_at slot a'.seats ≡ Some x)
         (moved : x ≡ record m { queue = x.queue }) where
       waited : scans_in id (map (mean_member a.seats) seats) ≡ m.queue.scans
@@ -470,7 +470,7 @@ module _ (a a' : AverageRecord) (id : MemberId) (slot captures next starts : ℕ
   several_taken_sound (Some count) most before after takes =
       several_sound most count before after takes.2 takes.1.others (member_at slot a.seats) (member_at slot a'.seats) refl refl takes.1.moved
 
-  -- no more bytes than were asked for
+  -- at most as many bytes as were asked for
   pub bytes_within : (o : Option ℕ) (most size : ℕ) (before after : List ℕ) → TakesScansOf slot most o before after a a'
       → IfSome (member_at slot a.seats) (λ m. length after ≡ length before + unwrap_or o 0 * m.queue.size)
       → ((m : Membership) → member_at slot a.seats ≡ Some m → m.queue.size ≡ size) → length after ≤ length before + most * size
@@ -491,7 +491,7 @@ module _ (a a' : AverageRecord) (id : MemberId) (slot captures next starts : ℕ
   pub size_is : (m : Membership) → member_at slot a.seats ≡ Some m → m.queue.size ≡ scan_size a.shape id.mask
   size_is m e = found_size id slot a.shape captures next a.seats m e seats found sound.seated
 
-  -- so that a scan of that mask fits, and several of them do
+  -- hence a scan of that mask fits, and several of them do
   pub scan_fits : (size : ℕ) → size ≡ scan_size a.shape id.mask → IfSome (member_at slot a.seats) (λ (m : Membership). size ≡ m.queue.size)
   scan_fits size is = by (member_at slot a.seats) refl
     where

@@ -82,7 +82,7 @@ cut_size shape m =
     ∙ ap (λ (largest : ℕ). next_multiple_of (end_below (formats_of shape) m (count_of shape)) largest)
     (cut_largest (formats_of shape) m (count_of shape) (count_of shape) (omega arith))
 
--- so that a scan's size is the same where the mask is cut
+-- hence a scan's size is the same if the mask is cut
 pub size_cut : (shape s : ShapeRecord) (count m bits : ℕ) → s ≡ shape → count ≡ count_of s → count < 64 → bits ≡ m % (1 * 2 ^ count % 2 ^ 64)
     → scan_size s bits ≡ scan_size shape m
 size_cut shape s count m bits same many few is =
@@ -94,7 +94,7 @@ size_cut shape s count m bits same many few is =
 
 -- ---- a writer that is there
 
--- a device with that output device
+-- a device that has that output device
 abbrev out_told : OutDevice → OutRecord → Station
 out_told d out = record (out_station d) {
   members = writers_of (d.starts - 1) out.underruns out.writer;
@@ -106,7 +106,7 @@ one_found : (id : MemberId) (x : Member) (b : Bool) → is_id_of id x ≡ b → 
 one_found id x true e = rw e refl
 one_found id x false e = rw e refl
 
--- one that is live is there
+-- a writer that is live is there
 pub live_there : (n underruns : ℕ) (id : MemberId) (o : Option WriterRecord)
     → true ≡ is_some (member_in id (writers_of n underruns o)) → is_some o ≡ true
 live_there n underruns id None e = sym e
@@ -138,7 +138,7 @@ module _ (st : Station) (id : MemberId) (size : ℕ) (bytes : List ℕ) (plugged
   abbrev written : Station → Station
   written x = record x { members = map (writes id (scans_of size bytes)) x.members }
 
-  -- by the writer that is there
+  -- a payload of the writer that is there
   module _ (m : Member) where
     abbrev faults : List (Bool × Wrote)
     faults =
@@ -169,7 +169,7 @@ module _ (st : Station) (id : MemberId) (size : ℕ) (bytes : List ℕ) (plugged
         (ap (λ (xs : List (List ℕ)). (let x : Station = record st { members = record m { scans = xs } ∷ [] } in x)) (append-nil m.scans)
         ∙ ap (λ (ms : List Member). (let x : Station = record st { members = ms } in x)) (sym members)))
 
-  -- by one that isn't
+  -- a payload of a writer that isn't there
   module _ (gone : member_in id st.members ≡ None) where
     unwritten_by : (ms : List Member) → member_in id ms ≡ None → map (writes id (scans_of size bytes)) ms ≡ ms
     unwritten_by [] none = refl
@@ -229,15 +229,15 @@ module _ (st : Station) (id : MemberId) (size : ℕ) (bytes : List ℕ) (plugged
         by false false e whole = write_bad e whole
         by false true e whole = write_full e whole
 
--- by the writer of a device
+-- payloads of the writer of a device
 module _ (d : OutDevice) (number : ℕ) (mask : Mask) (bytes : List ℕ) where
-  -- a payload for scans of that size is answered so, and the device is that one then
+  -- a payload for scans of that size is answered so, and the device is then that one
   abbrev Streams : (size : ℕ) → Result ℕ No → Station → Type 0
   Streams size answer new =
       Acts (λ (st : Station). record st { members = map (writes (id_of number mask) (scans_of size bytes)) st.members })
       (write_scans_at (out_station d) (id_of number mask) size bytes) answer (out_station d) new
 
-  -- the device with what the writer that is there has written
+  -- the device after the writer that is there has written
   abbrev written_by : Option WriterRecord → OutRecord
   written_by o = record d.out { writer = option_map (λ (w : WriterRecord). after_write w bytes) o }
 
@@ -277,7 +277,7 @@ module _ (d : OutDevice) (number : ℕ) (mask : Mask) (bytes : List ℕ) where
             (writer_writes w live out (of_writer (λ (x : WriterRecord). x.size ≡ scan_size d.out.shape x.mask) d.out.writer w live sized)
             (is ∙ ap written_by live))
 
-  -- and by one that isn't there
+  -- a writer that isn't there
   pub none_writes : d.plugged ≡ true → false ≡ is_some (member_in (id_of number mask) (out_station d).members)
       → Streams (scan_size d.out.shape mask.bits) (nowhere_answer (scan_size d.out.shape mask.bits) bytes) (out_station d)
   none_writes plugged gone =
@@ -328,7 +328,7 @@ idle_one : (shape : ShapeRecord) (t : ℤ) (c : ℕ) (driver : Driver)
     → channel_sensed shape t c (begun driver (new_monitor {Who = ℕ} shape)) ≡ begun driver (new_monitor {Who = ℕ} shape)
 idle_one shape t c driver = rw (idle_in shape c) refl
 
--- idle thresholds are asked nothing
+-- no thresholds are enabled, so nothing is asked
 pub idle_sensed : (shape : ShapeRecord) (t : ℤ) (n : ℕ) (driver : Driver)
     → channels_sensed shape t n (begun driver (new_monitor {Who = ℕ} shape)) ≡ begun driver (new_monitor {Who = ℕ} shape)
 idle_sensed shape t zero driver = refl
@@ -338,7 +338,7 @@ module _ (d : OutDevice) (t : ℤ) where
   idle : sensed d.out.shape t (out_station d).site ≡ begun (out_station d).site.driver (out_station d).site.monitor
   idle = idle_sensed d.out.shape t (length d.out.shape.channels) (out_station d).site.driver
 
-  -- so that a look changes nothing
+  -- hence a look changes nothing
   pub look_stays : out_station d ≡ station_after_look d.out.shape t (out_station d)
   look_stays = by d.plugged ∙ ap (λ (x : Sensed ℕ). cond d.plugged (with_site (with_sensed x) (out_station d)) (out_station d)) (sym idle)
     where

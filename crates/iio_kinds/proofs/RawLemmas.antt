@@ -1,4 +1,4 @@
--- A sample that a device doesn't give, as the plain state answers it.
+-- A sample that a device refuses, as the plain state answers it.
 use Rattle.std.proofs.Common.{◌≡◌, ℕ, Bool, true, false, refl, sym, ap, ◌∙◌, cond, Some, Ok, Err}
 use Rattle.std.specs.Prelude.{ℤ, ◌&&◌, not}
 use Rattle.iio_base.specs.Refusals.{◌>>=◌, ensure}
@@ -28,7 +28,7 @@ answer_as sample true true false = refl
 answer_as sample true false f = refl
 answer_as sample false e f = refl
 
--- and so is the device after it
+-- the device after it is that of the plain state too
 sampled_as : (d : DeviceView Queue) (p e : Bool)
     → station_of (cond (p && e) (at_site (sampled d.site) d) d) ≡ cond (p && e && true) (with_site sampled (station_of d)) (station_of d)
 sampled_as d true true = refl

@@ -87,7 +87,7 @@ module _ (id : MemberId) (mask : Mask) (scans : ℕ) (v v' : DeviceView Queue) w
       by fault.NoUnion r = refused_by _ (ap (λ (o : Option Errno). unless_refused (length (scans_in id (station_of v).members)) o) r) (ap station_of same)
       by fault.Mem r = ap station_of same
 
-  -- it is done
+  -- the exchange is made
   pub done : (tail before : Queue) (n : ℕ) → is_bad_mask v.standing.shape mask.bits ≡ false → Knows → tail.scans ≡ [] → tail.lost ≡ 0 → tail.capacity ≡ scans
       → n ≡ length before.scans
       → RemasksDevice lost_of id.number mask tail (Ok before) v v'

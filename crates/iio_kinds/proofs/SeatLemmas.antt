@@ -1,4 +1,4 @@
--- The seats of an averaging device's members, and the queues at their slots.
+-- The seats of an averaging device's members, and the queues in their slots.
 use Rattle.std.proofs.Common.{◌≡◌, ℕ, zero, suc, ◌+◌, ◌-◌, ◌≤◌, Bool, true, false, List, [], ◌∷◌, ◌++◌, map, length, Option, Some, None, IfSome, refl, sym, ap, subst, ◌∙◌, arith, cond}
 use Rattle.std.specs.Prelude.{◌==◌, ◌||◌, ◌≢◌, not, filter, is_some}
 use Rattle.std.specs.List.{AllByRecursion, IsDistinct, list_any}
@@ -39,7 +39,7 @@ apart_false n k h = by (n == k) refl
 pub differs : (n k : ℕ) → (n == k) ≡ false → k ≢ n
 differs n k e same = let own : (n == k) ≡ true = grind (arith, nat_tests) in cc
 
--- ---- lists with an element more, and with fewer
+-- ---- lists with another element, and with fewer
 
 pub all_push : {A : Type 0} (P : A → Type 0) (xs : List A) (y : A) → AllByRecursion P xs → P y → AllByRecursion P (xs ++ y ∷ [])
 all_push P [] y all own = (own, tt)
@@ -69,7 +69,7 @@ pub any_last : {A : Type 0} (test : A → Bool) (xs : List A) (y : A) → test y
 any_last test [] y e = rw e refl
 any_last test (x ∷ xs) y e = or_right (test x) (list_any test (xs ++ y ∷ [])) (any_last test xs y e)
 
--- one that isn't the last is before it
+-- an element that isn't the last is before it
 pub any_front : {A : Type 0} (test : A → Bool) (xs : List A) (y : A) → test y ≡ false → list_any test (xs ++ y ∷ []) ≡ true → list_any test xs ≡ true
 any_front test [] y none e = by (test y) none e
   where
@@ -100,7 +100,7 @@ unfolding IsDistinct
 distinct_front [] y apart = tt
 distinct_front (x ∷ xs) y apart = (all_front (λ z. (x == z) ≡ false) xs y apart.0, distinct_front xs y apart.1)
 
--- the last is none of the others
+-- the last element isn't one of the others
 pub last_apart : (xs : List ℕ) (y : ℕ) → AreApart (xs ++ y ∷ []) → AllByRecursion (λ z. (y == z) ≡ false) xs
 unfolding IsDistinct
 last_apart [] y apart = tt
@@ -142,7 +142,7 @@ module _ {A : Type 0} (test : A → Bool) where
 
 -- ---- members by their slots
 
--- a member with what stands at its slot
+-- a member with what is in its slot
 abbrev pub mean_with : MeanSeat → Option Membership → Member
 mean_with s o = record {
   number = s.number;
@@ -166,7 +166,7 @@ told_with a plugged starts next captures totals members = record {
   window = a.window;
 }
 
--- what stands at all slots but one is the same
+-- all slots except one are the same
 abbrev pub KeepsOthers : ℕ → (old new : List (Option Membership)) → Type 0
 KeepsOthers n old new = (other : ℕ) → other ≢ n → member_at other new ≡ member_at other old
 
@@ -192,7 +192,7 @@ module _ (n : ℕ) (slots slots' : List (Option Membership)) (same : KeepsOthers
       } in
       (seat, others_seated shape captures next next' ss more apart.1 all.1)
 
-  -- with a seat for that one
+  -- with a seat for that slot
   pub seats_push : (seats : List MeanSeat) (s : MeanSeat) → s.slot ≡ n → HasSeats slots seats → HasSeats slots' (seats ++ s ∷ [])
   seats_push seats s is has slot live = by (s.slot == slot) refl
     where
@@ -203,7 +203,7 @@ module _ (n : ℕ) (slots slots' : List (Option Membership)) (same : KeepsOthers
           (has slot (ap (λ (o : Option Membership). is_some o) (sym (same slot (λ q. let own : (s.slot == slot) ≡ true = grind (arith, nat_tests) in cc)))
           ∙ live))
 
--- a slot that is free is none of the members'
+-- no member has a slot that is free
 pub free_slot : (shape : ShapeRecord) (captures next n : ℕ) (slots : List (Option Membership)) (seats : List MeanSeat)
     → member_at n slots ≡ None → AreSeated shape captures next slots seats → AreOthers n seats
 free_slot shape captures next n slots [] none all = tt
@@ -213,7 +213,7 @@ free_slot shape captures next n slots (s ∷ ss) none all = (
   free_slot shape captures next n slots ss none all.1,
 )
 
--- the next number is none of the members'
+-- no member has the next number
 pub next_apart : (shape : ShapeRecord) (captures next : ℕ) (slots : List (Option Membership)) (seats : List MeanSeat)
     → AreSeated shape captures next slots seats → AllByRecursion (λ y. (next == y) ≡ false) (map mean_number_of seats)
 next_apart shape captures next slots [] all = tt
@@ -236,7 +236,7 @@ any_from [] n e = absurd (cc)
 any_from (o ∷ os) zero e = rw e refl
 any_from (o ∷ os) (suc n) e = or_right (is_some o) (has_member os) (any_from os n e)
 
--- exactly where there is a seat
+-- there is a member exactly if there is a seat
 pub has_seats : (slots : List (Option Membership)) (seats : List MeanSeat) → HasSeats slots seats
     → ((s : MeanSeat) (ss : List MeanSeat) → seats ≡ s ∷ ss → is_some (member_at s.slot slots) ≡ true) → has_member slots ≡ not (is_empty seats)
 has_seats slots [] has live = by (has_member slots) refl
@@ -286,7 +286,7 @@ module _ (number slot : ℕ) where
       let other : (s.number == number) ≡ false = let apart = all.0 in grind (arith, nat_tests) in
       rw other (ap (λ (xs : List MeanSeat). s ∷ xs) (unnumbered n ss own all.1))
 
-  -- each other slot's member has its seat still
+  -- the member in each other slot still has its seat
   pub without_any : (k : ℕ) (seats : List MeanSeat) → (slot == k) ≡ false → slot_by number seats ≡ Some slot → AreApart (map mean_number_of seats)
       → list_any (λ (t : MeanSeat). t.slot == k) seats ≡ true → list_any (λ (t : MeanSeat). t.slot == k) (seats_without number seats) ≡ true
   unfolding IsDistinct

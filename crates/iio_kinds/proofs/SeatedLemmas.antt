@@ -1,4 +1,4 @@
--- What members that come and go make of an averaging device, as an `Iio` tells it.
+-- What joining and leaving members make of an averaging device, as an `Iio` tells it.
 use Rattle.std.proofs.Common.{◌≡◌, ℕ, ◌+◌, ◌-◌, ◌<◌, ◌≤◌, Bool, true, false, List, [], ◌∷◌, ◌++◌, map, length, Option, Some, None, IfSome, Ok, refl, sym, ap, subst, ◌∙◌, arith, cond, option_map, unwrap_or}
 use Rattle.std.specs.Prelude.{◌==◌, ◌≢◌, not, is_some, find, ℤ}
 use Rattle.std.specs.List.{AllByRecursion, IsDistinct, list_any}
@@ -23,7 +23,7 @@ use Rattle.iio_kinds.specs.MeanStation.{mean_member}
 use Rattle.iio_kinds.specs.Seated.{AreSeated, HasSeats, IsMemberOf, IsSeated, IsSeating, IsWide, attachment_with, mean_number_of, seats_without, slot_by, slot_of}
 use Rattle.iio_kinds.proofs.SeatLemmas.{AreOthers, KeepsOthers, all_front, all_kept, all_last, all_push, any_front, distinct_front, distinct_kept, distinct_push, empty_map, fewer_kept, free_slot, last_apart, map_push, mean_with, next_apart, others_seated, others_told, pushed_some, seated_some, seats_push, slot_found, told_with, without_any, without_others}
 
--- before a member has joined
+-- before a member joined
 none_apart : AreApart []
 unfolding IsDistinct
 none_apart = tt
@@ -42,7 +42,7 @@ none_seated a none new = record {
 pub none_made : (a : AverageRecord) (seats : List MeanSeat) → a.seats ≡ [] → a.window ≡ no_window → seats ≡ [] → IsSeating a 0 0 0 seats
 none_made a seats none new e = subst (IsSeating a 0 0 0) (sym e) (none_seated a none new)
 
--- ---- a member more
+-- ---- another member
 
 begun_with : (b : Bool) (starts next n : ℕ) → starts + (n - 1) ≤ next → (b ≡ true → n ≡ 0) → (b ≡ false → 1 ≤ n)
     → cond b (starts + 1) starts + (n + 1 - 1) ≤ next + 1
@@ -123,7 +123,7 @@ module _ (a a' : AverageRecord) (mask : Mask) (capacity slot captures next start
       ∙ ap (λ (ms : List Member). told_with a plugged (attachment_with seats starts) (next + 1) captures totals ms) members_are
       ∙ attached_told a plugged starts next captures totals a.seats seats mask.bits capacity
 
--- without a member the window begins anew
+-- if there is no member, the window begins anew
 pub told_anew : (a : AverageRecord) (plugged : Bool) (captures next starts : ℕ) (totals : Totals) (seats : List MeanSeat)
     → IsSeating a captures next starts seats
     → IsAnew (told_with a plugged starts next captures totals (map (mean_member a.seats) seats))
@@ -133,9 +133,9 @@ told_anew a plugged captures next starts totals seats sound e =
     ap (λ (n : ℕ). (let w : Window = record { count = n; sums = a.window.sums } in w)) new.0
     ∙ ap (λ (xs : List ℤ). (let w : Window = record { count = 0; sums = xs } in w)) new.1
 
--- ---- a member less
+-- ---- a member leaves
 
--- a leaving of one that is there
+-- the leaving of a member that is there
 leaves_live : (slot : ℕ) (b : Bool) (a a' : AverageRecord) → is_some (member_at slot a.seats) ≡ true → Leaves slot b a a' → Leaves slot true a a'
 leaves_live slot true a a' live leaves = leaves
 leaves_live slot false a a' live leaves = absurd (let gone = leaves.0 in cc)
@@ -296,7 +296,7 @@ module _ (a a' : AverageRecord) (b : Bool) (number slot captures next starts : �
       either None = refl
       either (Some m) = refl
 
--- ---- nobody of that number
+-- ---- no member has that number
 
 module _ (number : ℕ) (slots : List (Option Membership)) where
   none_lost : (seats : List MeanSeat) → slot_by number seats ≡ None → lost_by number (map (mean_member slots) seats) ≡ None
@@ -344,7 +344,7 @@ front_push [] y = refl
 front_push (x ∷ []) y = refl
 front_push {A = A} (x ∷ z ∷ zs) y = ap (λ (ys : List A). x ∷ ys) (front_push (z ∷ zs) y)
 
--- what was before a joining
+-- the device before a joining
 abbrev back : Station → Station
 back st = record st {
   next = st.next - 1;
@@ -379,7 +379,7 @@ final_push [] y = refl
 final_push (x ∷ []) y = refl
 final_push (x ∷ z ∷ zs) y = final_push (z ∷ zs) y
 
--- the numbers of the others are lower by one more than the last one's
+-- the numbers of the others are below the last one's
 lowered : (shape : ShapeRecord) (captures next n : ℕ) (slots : List (Option Membership)) (seats : List MeanSeat) → next ≡ n + 1
     → AllByRecursion (λ y. (n == y) ≡ false) (map mean_number_of seats)
     → AreSeated shape captures next slots seats → AreSeated shape captures n slots seats

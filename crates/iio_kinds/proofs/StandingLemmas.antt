@@ -11,7 +11,7 @@ pub record KeepsPlace (st st' : Station) : Type 0 where
   pub attached : (t : ℕ) → is_attached t (attachment_of st') ≡ is_attached t (attachment_of st)
   pub attachment : st'.site.attachment ≡ st.site.attachment
 
--- ... and what averaging devices have to do with, but for captures
+-- ... and what concerns averaging devices, except captures
 pub record KeepsInner (st st' : Station) : Type 0 where
   pub place : KeepsPlace st st'
   pub hosted : (n : ℕ) → is_hosted n st ≡ true → is_hosted n st' ≡ true

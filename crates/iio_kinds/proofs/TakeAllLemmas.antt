@@ -1,4 +1,4 @@
--- Inner members that take their scans of a capture one after the other.
+-- Inner members that take their scans of a capture one after another.
 use Rattle.std.proofs.Common.{◌≡◌, ℕ, zero, suc, ◌+◌, Bool, true, false, ◌<◌, List, [], ◌∷◌, ◌++◌, map, take, drop, length, slice_index_or, Option, Some, None, refl, sym, ap, subst, ◌∙◌, arith, cond}
 use Rattle.std.specs.Prelude.{◌==◌, ◌||◌, is_some}
 use Rattle.std.specs.List.{AllByRecursion, IsDistinct}
@@ -63,7 +63,7 @@ module _ (n : ℕ) (out out' : List ℕ) (v v' : DeviceView Queue) (sized : is_s
         (found_passes n v.standing.members one.member one.found) changed
         ∙ ap (λ (ms : List (Membership Queue)). map (one_taken n) (map member_of ms)) (sym one.was)
 
-    -- the rest of what stands stays
+    -- everything else stays
     take_rest : (r : Option Bool) → Takes n r out out' v.standing v'.standing → v'.standing ≡ record v.standing { members = v'.standing.members }
     take_rest None t = absurd (let both : true ≡ false = sym sized ∙ t.0 in cc)
     take_rest (Some given) t = t.1
@@ -84,7 +84,7 @@ module _ (n : ℕ) (out out' : List ℕ) (v v' : DeviceView Queue) (sized : is_s
       captures = ap (λ (s : Standing Queue). s.captures) (take_rest r t);
     }
 
-    -- and the room has the scan, where it is the one that waited
+    -- the room has the scan, if it is the one that waited
     pub take_room : (r : Option Bool) (scan : List ℕ) → Takes n r out out' v.standing v'.standing
         → ((m : Membership Queue) → membership_of n v.standing.members ≡ Some m → m.tail.scans ≡ scan ∷ []) → out' ≡ scan
     take_room None scan t waits = absurd (let both : true ≡ false = sym sized ∙ t.0 in cc)
@@ -93,7 +93,7 @@ module _ (n : ℕ) (out out' : List ℕ) (v v' : DeviceView Queue) (sized : is_s
     take_room (Some true) scan t waits =
         let both : out' ∷ t.2.changed.tail.scans ≡ scan ∷ [] = sym t.2.moved.moved.first ∙ waits t.2.member t.2.found in cc
 
--- ---- one after the other
+-- ---- one take after another
 
 same_number : (n : ℕ) → (n == n) ≡ true
 same_number n = grind (arith, nat_tests)
@@ -159,7 +159,7 @@ found_waits n scan (x ∷ xs) m all e = by (x.number == n) refl e (found_waits n
     by true own e later = let same : x ≡ m = cc in subst (λ (y : Membership Queue). y.tail.scans ≡ scan ∷ []) same (all.0 own)
     by false own e later = later e
 
--- the scan of the next inner member is taken, once those before it were
+-- the scan of the next inner member is taken, after those before it
 module _ (inners done : List Inner) (i : Inner) (first v v' : DeviceView Queue) (out out' : List ℕ) (r : Option Bool)
     (station : station_of v ≡ all_taken done (station_of first)) (keeps : KeepsCaptures first v) (numbers : AreApart (are_numbers v.standing.members))
     (there : has_number i.number (map member_of first.standing.members) ≡ true)
@@ -218,7 +218,7 @@ apart_front (suc k) (i ∷ is) apart = (front k is apart.0, apart_front k is apa
     front (suc n) [] all = tt
     front (suc n) (x ∷ xs) all = (all.0, front n xs all.1)
 
--- its number is none of those before it
+-- no inner member before it has its number
 pub next_apart : (k : ℕ) (inners : List Inner) (i : Inner) → take (k + 1) inners ≡ take k inners ++ i ∷ [] → AreApart (map number_of inners)
     → AllByRecursion (λ y. (i.number == y) ≡ false) (map number_of (take k inners))
 next_apart k inners i more apart =
@@ -249,6 +249,6 @@ none_taken : (xs : List Member) → map (with_taken []) xs ≡ xs
 none_taken [] = refl
 none_taken (x ∷ xs) = ap (λ (ys : List Member). x ∷ ys) (none_taken xs)
 
--- none has taken anything at first
+-- at first none has taken anything
 pub first_taken : (st : Station) → st ≡ all_taken [] st
 first_taken st = ap (λ (ms : List Member). (let x : Station = record st { members = ms } in x)) (sym (none_taken st.members))

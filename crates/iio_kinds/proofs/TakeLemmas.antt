@@ -1,4 +1,4 @@
--- A take from a member's queue, as the machine has it.
+-- A take from a member's queue, as the plain state has it.
 use Rattle.std.proofs.Common.{◌≡◌, ℕ, zero, suc, ◌+◌, ◌*◌, ◌<◌, ◌≤◌, Bool, true, false, List, [], ◌∷◌, ◌++◌, map, length, take, drop, Option, Some, None, IfSome, refl, sym, ap, subst, ◌∙◌, arith, cond, append-nil, length-take, mul-le-mul_right, unwrap_or}
 use Rattle.std.specs.Prelude.{◌==◌}
 use Rattle.std.specs.List.{AllByRecursion, IsDistinct, flat_map, sum}
@@ -44,7 +44,7 @@ module _ (id : MemberId) (took : Took) (v v' : DeviceView Queue) (none : scans_i
       nothing_by (λ t. TakesScansAt id most t before after (station_of v) (station_of v')) v.site.plugged took is_nothing
       (λ p. (e, none, p, ap station_of same)) (λ p. (e, none, p, ap station_of same))
 
--- the view, where the members alone may have changed
+-- the view, if at most the members have changed
 view_is : (v v' : DeviceView Queue) → v' ≡ record v { standing = v'.standing } → v'.standing ≡ v.standing → v' ≡ v
 view_is v v' rest same = rest ∙ ap (λ (s : Standing Queue). (let x : DeviceView Queue = record v { standing = s } in x)) same
 
@@ -106,7 +106,7 @@ module _ (id : MemberId) (v v' : DeviceView Queue) {R : Membership Queue → Mem
   queue_told =
       scans_found id v.standing.members under ∙ ap (λ (o : Option (Membership Queue)). option_map_or (λ (m : Membership Queue). m.tail.scans) o []) one.found
 
-  -- the view, where the queue is left as it was
+  -- the view, if the queue is left as it was
   left_same : one.changed ≡ record one.member { tail = one.changed.tail } → one.changed.tail ≡ one.member.tail → v' ≡ record v { standing = v'.standing }
       → v' ≡ v
   left_same moved tail rest =
@@ -114,7 +114,7 @@ module _ (id : MemberId) (v v' : DeviceView Queue) {R : Membership Queue → Mem
       one.is ∙ ap (λ (x : Membership Queue). one.before ++ x ∷ one.after) (same_membership one.member one.changed moved tail) ∙ sym one.was in
       view_is v v' rest (only ∙ ap (λ (ms : List (Membership Queue)). (let s : Standing Queue = record v.standing { members = ms } in s)) members)
 
-  -- the device, once scans of it were given and these are left
+  -- the device after scans of it were given and these are left
   gives : (given left : List (List ℕ)) → IsDistinct (λ a b. a == b) (map (λ (m : Membership Queue). m.number) v.standing.members)
       → one.changed ≡ record one.member { tail = one.changed.tail } → one.changed.tail ≡ record one.member.tail { scans = left }
       → v' ≡ record v { standing = v'.standing; totals = with_given given v.totals }
@@ -171,7 +171,7 @@ take_scan id false out out' v v' under e distinct takes rest = absurd (cc)
 zero_more : (n : ℕ) → n + 0 ≡ n
 zero_more n = omega arith
 
--- scans that were taken count as many, and as their bytes
+-- scans that were taken count by their number and their bytes
 pub given_bytes : (scans : List (List ℕ)) (t : Totals) → with_bytes (length scans) (flat_map (λ scan. scan) scans) t ≡ with_given scans t
 given_bytes [] t = rw (zero_more t.scans, zero_more t.bytes) refl
 given_bytes (scan ∷ scans) t =
@@ -238,7 +238,7 @@ module _ (id : MemberId) (most : ℕ) (before after : List ℕ) (v v' : DeviceVi
               takes.2.moved.same takes.2.moved.moved.same given,
         )
 
-  -- no more were taken than were asked for, and no more bytes
+  -- at most as many were taken as were asked for, and no more bytes
   few_taken : (result : Option ℕ) → TakesScans id.number id.mask most result before after v.standing v'.standing → unwrap_or result 0 ≤ most
   few_taken None takes = omega arith
   few_taken (Some count) takes = let given = takes.2.moved.moved.count in omega (arith, given)
@@ -248,7 +248,7 @@ module _ (id : MemberId) (most : ℕ) (before after : List ℕ) (v v' : DeviceVi
       → length after ≤ length before + most * size
   bytes_within result size takes sized = omega (arith, sized, mul-le-mul_right size (few_taken result takes))
 
-  -- by what the device answers
+  -- by what the device returns
   pub no_scans_taken : (took : Took) (result : Option ℕ) → TakesScans id.number id.mask most result before after v.standing v'.standing
       → v' ≡ record v { standing = v'.standing; totals = with_bytes (unwrap_or result 0) (drop (length before) after) v.totals } → 1 ≤ most
       → unwrap_or result 0 ≡ 0 → took ≡ nothing_at (station_of v')

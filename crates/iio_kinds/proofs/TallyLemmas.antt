@@ -10,7 +10,7 @@ use Rattle.iio_kinds.specs.Tally.{bytes_by, devices_tally, overruns_by, scans_by
 
 -- ---- sums
 
--- a sum that went round goes on so
+-- a sum modulo 2^64 goes on modulo 2^64
 round_more : (a b : ℕ) → (a % 2 ^ 64 + b % 2 ^ 64) % 2 ^ 64 ≡ (a + b) % 2 ^ 64
 round_more a b = omega arith
 

@@ -24,13 +24,13 @@ use Rattle.iio_core.specs.Calls.{is_asking, read_answer}
 use Rattle.iio_core.specs.Machine.{Member, MemberId, Station, member_in, scans_in, with_scans, with_site}
 use Rattle.iio_kinds.specs.Station.{station_of}
 
--- the answer is `answer`, and the device is `after` then; want of memory changes nothing
+-- the answer is `answer`, and the device is then `after`; if memory ran out, nothing changes
 abbrev pub Turns : {A : Type 0} → Result A Errno → (after : Station) → Result A No → (old new : Station) → Type 0
 Turns answer after (Ok x) old new = (answer ≡ Ok x) × (new ≡ after)
 Turns answer after (Err (NoErrno e)) old new = (answer ≡ Err e) × (new ≡ after)
 Turns answer after (Err NoMem) old new = new ≡ old
 
--- a device after a call, which changes it by `change` where it isn't refused
+-- a device after a call, which changes it by `change` unless it is refused
 abbrev pub turned : {A : Type 0} → (Station → Station) → Result A Errno → Station → Station
 turned change (Ok x) st = change st
 turned change (Err e) st = st
@@ -38,7 +38,7 @@ turned change (Err e) st = st
 abbrev pub Acts : {A : Type 0} → (Station → Station) → Result A Errno → Result A No → (old new : Station) → Type 0
 Acts change answer result old new = Turns answer (turned change answer old) result old new
 
--- an attribute that a device of that head has, of its own or of one of its channels
+-- the attribute is one that a device of that head has, for itself or for one of its channels
 abbrev pub MayReadOf : DeviceHead → Option ℕ → Attr → Type 0
 MayReadOf d None a = ((row_of a).scope ≡ scope.Device) × (has_attribute d.kind a ≡ true)
 MayReadOf d (Some c) a = (c < length d.shape.channels) × ((row_of a).scope ≡ scope.Channel) × (has_attribute d.kind a ≡ true)
@@ -48,11 +48,11 @@ abbrev pub Reads : DeviceHead → ℤ → Option ℕ → Attr → Station → Re
 Reads d t channel a old result new =
     Turns (read_answer d.name d.kind d.shape t channel a old) (if is_asking d.kind channel a old then with_site sampled old else old) result old new
 
--- ... of an input device
+-- a read of an input device's attribute
 abbrev pub ReadsInput : ℤ → Option ℕ → Attr → DeviceView Queue → Result Value No → Station → Type 0
 ReadsInput t channel a d result new = Reads (record { name = d.name; kind = Input; shape = d.standing.shape }) t channel a (station_of d) result new
 
--- a member, by its number and its mask
+-- a member's number and mask, which identify it
 abbrev pub id_of : ℕ → Mask → MemberId
 id_of number mask = record { number = number; mask = mask.bits }
 
@@ -72,7 +72,7 @@ TakesAt id Scan scan old new =
 TakesAt id Empty scan old new = (scans_in id old.members ≡ []) × (old.site.plugged ≡ true) × (new ≡ old)
 TakesAt id Gone scan old new = (scans_in id old.members ≡ []) × (old.site.plugged ≡ false) × (new ≡ old)
 
--- the oldest scans of a member's queue are taken, at most `most`, and stand after what stood before
+-- the oldest scans of a member's queue, at most `most`, are taken and appended
 abbrev pub TakesScansAt : MemberId → (most : ℕ) → Took → (before after : List ℕ) → (old new : Station) → Type 0
 TakesScansAt id most Scan before after old new =
     (0 < length (take most (scans_in id old.members)))
@@ -89,7 +89,7 @@ TakesScansAt id most Gone before after old new = (after ≡ before) × (scans_in
 abbrev pub nothing_at : Station → Took
 nothing_at st = if st.site.plugged then Empty else Gone
 
--- how many scans of a member were lost
+-- the number of scans that a member lost
 abbrev pub lost_in : MemberId → List Member → ℕ
 lost_in id members = option_map_or (λ (x : Member). x.lost) (member_in id members) 0
 

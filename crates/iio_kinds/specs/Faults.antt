@@ -1,4 +1,4 @@
--- Why a member can't join a device beside these triggers.
+-- Why a member can't join a device, by the state of the triggers.
 use Rattle.std.specs.Prelude.{◌≡◌, ℕ, ◌<◌, ◌-◌, ◌^◌, ◌==◌, ◌&&◌, ◌||◌, not, Bool, true, false, List, [], ◌∷◌, length, slice_get, Option, Some, None, is_none, Result, Ok, Err}
 use Rattle.std.specs.Option.{option_map_or}
 use Rattle.iio_base.specs.Refusals.{first_refusal}
@@ -28,7 +28,7 @@ use Rattle.iio_core.specs.Opening.{join_refusals}
 use Rattle.iio_kinds.specs.declared.seat.Seat.{Seat}
 use Rattle.iio_kinds.specs.Places.{place_taken}
 
--- whether there is no place at the device's trigger; at one that isn't there, there is none
+-- whether the device's trigger has no place for it; a trigger that isn't there has none
 abbrev pub lacks_place : ℕ → List State → Option ℕ → Bool
 lacks_place number states None = false
 lacks_place number states (Some trigger) = option_map_or (has_no_place number) (slice_get states trigger) true
@@ -43,7 +43,7 @@ faults_at states d mask =
     ∷ (is_bad_mask d.standing.shape mask, fault.BadMask)
     ∷ member_faults (is_none d.site.trigger) (is_without_union d.standing.shape (masks_of d.standing.members) mask) (is_full states d)
 
--- the number of the device's trigger, which is there, or why there is none to join by
+-- the number of the device's trigger, which is there, or why a member can't join by it
 abbrev pub Hosts : List State → DeviceView Queue → ℕ → Result ℕ JoinFault → Type 0
 Hosts states d mask (Ok trigger) =
     (d.site.trigger ≡ Some trigger) × (trigger < length states) × (first_refusal (faults_at states d mask) ≡ None)
@@ -53,7 +53,7 @@ Hosts states d mask (Err fault) = first_refusal (faults_at states d mask) ≡ So
 abbrev pub first_queue : ShapeRecord → Mask → ℕ → Queue
 first_queue shape mask capacity = record { scans = []; taken = 0; lost = 0; size = scan_size shape mask.bits; capacity = capacity }
 
--- a member more by a place that it has; want of memory changes nothing
+-- a member joins, and has a place; if memory ran out, nothing changes
 abbrev pub JoinsBy : Mask → ℕ → Result Seat No → (old new : DeviceView Queue) → (trigger trigger' : State) → Type 0
 JoinsBy mask capacity (Ok seat) old new trigger trigger' =
     (seat ≡ record { number = old.standing.next; mask = mask; size = scan_size old.standing.shape mask.bits; capacity = capacity })
@@ -63,7 +63,7 @@ JoinsBy mask capacity (Err refusal) old new trigger trigger' = (refusal ≡ NoMe
 
 -- ---- devices of each kind
 
--- the refusals of a member more in their order, by what the device is told as, and whether the trigger has no place for it; an
+-- the refusals of another member in their order, by the device's station and by whether the trigger has no place for it; an
 -- output device has one writer
 abbrev pub any_refusals : (lacks : Bool) → Kind → ShapeRecord → Station → (mask : ℕ) → List (Bool × Errno)
 any_refusals lacks kind shape st mask =
@@ -71,7 +71,7 @@ any_refusals lacks kind shape st mask =
     ∷ (is_output kind && not (is_empty st.members), EBUSY)
     ∷ join_refusals (is_none st.site.trigger) (is_without_union shape (masks_told st.members) mask) (is_empty st.members && lacks || st.next == 2 ^ 64 - 1)
 
--- the number of the device's trigger, which is there, or the refusal; want of memory is free
+-- the number of the device's trigger, which is there, or the refusal; that memory ran out may always be answered
 abbrev pub HostsAny : List State → Kind → (number : ℕ) → ShapeRecord → Station → (mask : ℕ) → Result ℕ No → Type 0
 HostsAny states kind number shape st mask (Ok trigger) =
     (st.site.trigger ≡ Some trigger) × (trigger < length states)
@@ -80,7 +80,7 @@ HostsAny states kind number shape st mask (Err (NoErrno errno)) =
     first_refusal (any_refusals (lacks_place number states st.site.trigger) kind shape st mask) ≡ Some errno
 HostsAny states kind number shape st mask (Err NoMem) = Unit {0}
 
--- a member more by a place that it has; want of memory changes nothing
+-- a member joins, and has a place; if memory ran out, nothing changes
 abbrev pub JoinsAny : Mask → (capacity : ℕ) → (cyclic : Bool) → (inner : Option ℕ) → (number : ℕ) → ShapeRecord → Result Seat No → (old new : Station)
     → (trigger trigger' : State) → Type 0
 JoinsAny mask capacity cyclic inner number shape (Ok seat) old new trigger trigger' =
@@ -91,19 +91,19 @@ JoinsAny mask capacity cyclic inner number shape (Err refusal) old new trigger t
 
 -- ---- averaging devices
 
--- averaging device j may have its inner member at a device: it is an input device, the member has the mask of all channels and
--- a queue for one scan, and there is none of it yet
+-- averaging device j may have its inner member at a device: that is an input device, the member has the mask of all channels
+-- and a queue for one scan, and the averaging device has none there yet
 pub record MayHaveInner (d : DeviceHead) (mask capacity : ℕ) (st : Station) (j : ℕ) : Type 0 where
   pub input : is_input d.kind ≡ true
   pub whole : mask ≡ full_mask d.shape
   pub one : capacity ≡ 1
   pub none : list_any (is_inner_of j) st.members ≡ false
 
--- without a member no captures count towards the next mean
+-- if there is no member, no captures count towards the next mean
 abbrev pub IsAnew : Station → Type 0
 IsAnew st = is_empty st.members ≡ true → st.window ≡ no_window
 
--- a member more at an averaging device; want of memory changes nothing
+-- a member joins an averaging device; if memory ran out, nothing changes
 abbrev pub JoinsMean : Mask → (capacity : ℕ) → ShapeRecord → Result Seat No → (old new : Station) → Type 0
 JoinsMean mask capacity shape (Ok seat) old new =
     (seat ≡ record { number = old.next; mask = mask; size = scan_size shape mask.bits; capacity = capacity })
@@ -111,11 +111,11 @@ JoinsMean mask capacity shape (Ok seat) old new =
     × IsAnew old
 JoinsMean mask capacity shape (Err refusal) old new = (refusal ≡ NoMem) × (new ≡ old)
 
--- a device was such that a member of that mask and capacity has joined it since
+-- the device is as it is just after a member of that mask and capacity has joined it
 abbrev pub HasJoined : Mask → (capacity : ℕ) → Station → Type 0
 HasJoined mask capacity st = (before : Station) × (st ≡ station_after_join mask.bits capacity false None before) × IsAnew before
 
--- the mask of all channels is served beside the members of an input device exactly where it is served alone
+-- the mask of all channels is served together with the members of an input device exactly if it is served alone
 abbrev pub IsServedAlone : Kind → ShapeRecord → Station → (mask : ℕ) → Type 0
 IsServedAlone kind shape st mask =
     is_input kind ≡ true → mask ≡ full_mask shape → is_without_union shape (masks_told st.members) mask ≡ is_without_union shape [] mask

@@ -1,5 +1,5 @@
--- What stands at a device beside the machine where an entry of it is handled: the scan that it is given, that its inner members
--- take, and how many captures it has made.
+-- What is kept at a device besides the plain state when an entry of it is handled: the scan that it is given, the scan that its
+-- inner members take, and how many captures it has made.
 use Rattle.std.specs.Prelude.{◌≡◌, ℕ, ℤ, ◌+◌, ◌-◌, ◌^◌, ◌==◌, Bool, true, List, Option, Some, None, option_map, is_some, length, if◌then◌else◌}
 use Rattle.std.specs.List.{list_any}
 use Rattle.iio_desc.specs.Kind.{Kind, Average}
@@ -20,17 +20,17 @@ use Rattle.iio_core.specs.declared.became.Gave.TheVariants as gave
 use Rattle.iio_core.specs.Machine.{Member, Station}
 use Rattle.iio_core.specs.Moves.{Capture, capture_in, station_after_entry, station_after_gathering, kind_answer, next_of}
 
--- ---- devices that have come to their end
+-- ---- devices that have made their last capture
 
--- whether captures have come to their end
+-- whether the device has made its last capture
 abbrev pub is_last : ℕ → Bool
 is_last captures = captures == 2 ^ 64 - 1
 
--- a device of which they have is asked nothing more
+-- a device that has made its last capture isn't asked any more
 abbrev pub unless_ended : {A : Type 0} → (ended : Bool) → (idle made : A) → A
 unless_ended ended idle made = if ended then idle else made
 
--- a device after the handling of the entry that it has at a trigger, if any; its answer, and the capture that it makes
+-- a device after the handling of the entry that it has at a trigger, if any; then its answer, and the capture that it makes
 abbrev pub entry_station : Kind → Option Handed → (ended : Bool) → ShapeRecord → Station → Station
 entry_station kind o ended shape st = unless_ended ended st (station_after_entry kind shape o st)
 
@@ -40,14 +40,14 @@ entry_became kind o ended st = option_map (λ (e : Handed). unless_ended ended (
 abbrev pub entry_capture : Kind → Option Handed → (ended : Bool) → ShapeRecord → Station → Option Capture
 entry_capture kind o ended shape st = unless_ended ended None (capture_in kind shape o st)
 
--- how many captures a device has made, once an entry was handled with that answer: one more where there was a capture
+-- the number of captures that a device has made after an entry was handled with that answer: one more if there was a capture
 abbrev pub counted : Option Became → ℕ → ℕ
 counted (Some (Asked (Captured members))) captures = captures + 1
 counted answer captures = captures
 
 -- ---- scans that were given
 
--- the scan that was given, as its bytes stand in the room for it
+-- the room has the bytes of the scan that was given
 abbrev pub IsGiven : Giving → List Member → (room : List ℕ) → Type 0
 IsGiven gave.Given members room = option_map (λ (scan : GivenScan). scan.bytes) (next_of members) ≡ Some room
 IsGiven answer members room = Unit {0}
@@ -69,12 +69,12 @@ pub record IsScanOf (shape : ShapeRecord) (c : Capture) (scan : List ℕ) : Type
 abbrev pub has_inner : List Member → Bool
 has_inner members = list_any (λ (x : Member). is_some x.inner) members
 
--- so that the scan of all channels of the capture, if any, was taken
+-- if an averaging device has a member there, the scan of all channels of the capture, if there is one, was taken
 abbrev pub IsTakenWhole : ShapeRecord → Option Capture → List Member → (scan : List ℕ) → Type 0
 IsTakenWhole shape None members scan = Unit {0}
 IsTakenWhole shape (Some c) members scan = has_inner members ≡ true → IsScanOf shape c scan
 
--- a device of a kind with a capture more of its base
+-- a device of a kind after another capture of its base
 abbrev pub kind_gathered : Kind → ShapeRecord → Capture → Station → Station
 kind_gathered (Average base window) shape c st = station_after_gathering window shape (Some c) st
 kind_gathered kind shape c st = st

@@ -1,4 +1,4 @@
--- The members of an input device that averaging devices have there.
+-- Inner members: the members that averaging devices have at an input device.
 use Rattle.std.specs.Prelude.{◌≡◌, ℕ, All, ◌==◌, not, true, false, List, [], ◌∷◌, find, filter, length, map, Option, option_map, is_some}
 use Rattle.std.specs.List.{AllByRecursion, IsDistinct}
 use Rattle.iio_kfifo.specs.Queue.{Queue}
@@ -30,7 +30,7 @@ average_of i = i.average
 abbrev pub inner_at : List Inner → ℕ → Option ℕ
 inner_at inners number = option_map average_of (find (λ (i : Inner). i.number == number) inners)
 
--- a member as it is told, which is an inner one where it is among these
+-- a member as it is told; it is an inner one if it is among these
 abbrev pub with_inner_name : List Inner → Member → Member
 with_inner_name inners x = record x { inner = inner_at inners x.number }
 
@@ -44,29 +44,29 @@ inners_without average inners = filter (λ (i : Inner). not (i.average == averag
 
 -- ---- what always holds of an input device
 
--- a member of all channels, for which nothing waits
+-- a member with the mask of all channels and room for one scan, for which no scan waits
 pub record IsIdle (shape : ShapeRecord) (m : Membership Queue) : Type 0 where
   pub mask : m.mask.bits ≡ full_mask shape
   pub capacity : m.tail.capacity ≡ 1
   pub scans : m.tail.scans ≡ []
 
--- each inner member is one
+-- each inner member is such a member
 abbrev pub AreIdle : ShapeRecord → List Inner → List (Membership Queue) → Type 0
 AreIdle shape inners members = AllByRecursion (λ (m : Membership Queue). is_some (inner_at inners m.number) ≡ true → IsIdle shape m) members
 
--- each has the mask of all channels
+-- each inner member has the mask of all channels
 abbrev pub AreWhole : ShapeRecord → List Inner → List (Membership Queue) → Type 0
 AreWhole shape inners members = AllByRecursion (λ (m : Membership Queue). is_some (inner_at inners m.number) ≡ true → m.mask.bits ≡ full_mask shape) members
 
--- each is there
+-- each inner member is there
 abbrev pub AreThere : List (Membership Queue) → List Inner → Type 0
 AreThere members inners = AllByRecursion (λ (i : Inner). is_live i.number members ≡ true) inners
 
--- no number is twice among these
+-- no number occurs twice
 abbrev pub AreApart : List ℕ → Type 0
 AreApart numbers = IsDistinct (λ a b. a == b) numbers
 
--- there is room for a scan of all channels, where there is an inner member
+-- if there is an inner member, the room is that of a scan of all channels
 abbrev pub HasRoom : ShapeRecord → List Inner → (room : List ℕ) → Type 0
 HasRoom shape inners room = is_empty inners ≡ false → length room ≡ scan_size shape (full_mask shape)
 

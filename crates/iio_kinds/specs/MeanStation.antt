@@ -1,4 +1,4 @@
--- An averaging device, as an `Iio` tells it.
+-- The station of an averaging device, as an `Iio` tells it.
 use Rattle.std.specs.Prelude.{◌≡◌, ℕ, ◌+◌, false, List, [], map, Option, None}
 use Rattle.std.specs.List.{sum_by}
 use Rattle.std.specs.Option.{option_map_or}
@@ -13,7 +13,7 @@ use Rattle.iio_core.specs.Machine.{Member, Station, new_station}
 use Rattle.iio_kinds.specs.declared.mean_device.MeanDevice.{MeanDevice}
 use Rattle.iio_kinds.specs.declared.mean_device.MeanSeat.{MeanSeat}
 
--- a member, of which the queue stands at its slot
+-- a member; its queue is in its slot
 abbrev pub mean_member : List (Option Membership) → MeanSeat → Member
 mean_member slots s = record {
   number = s.number;
@@ -25,7 +25,8 @@ mean_member slots s = record {
   inner = None;
 }
 
--- a first member's joining is a new attachment. It has no sensor and no trigger of its own, and no attribute of it is written
+-- the joining of a first member is a new attachment. The device has no sensor and no trigger of its own, and its attributes are
+-- never written
 abbrev pub mean_station : MeanDevice → Station
 mean_station d = record {
   next = d.next;
@@ -37,14 +38,14 @@ mean_station d = record {
   window = d.average.window;
 }
 
--- what no call changes of it: its name, its base and how many captures make a mean, its channels
+-- what no call changes: its name, its base, the number of captures that make a mean, its channels
 abbrev pub means_head : List ℕ → (base window : ℕ) → ShapeRecord → DeviceHead
 means_head name base window shape = record { name = name; kind = Average base window; shape = shape }
 
 abbrev pub mean_head : MeanDevice → DeviceHead
 mean_head d = means_head d.name d.base d.average.size d.average.shape
 
--- before the first step, over a base of that shape
+-- the station before the first step, over a base of that shape
 abbrev pub new_mean_station : ShapeRecord → Station
 new_mean_station shape = new_station (new_site shape None no_driver) (first_last shape)
 
@@ -53,11 +54,11 @@ first_mean_station devices x = new_mean_station (average_shape devices x)
 
 -- ---- for this crate's private functions alone
 
--- ... and its number
+-- what no call changes, with the number
 pub record KeepsMean (old new : MeanDevice) : Type 0 where
   pub head : mean_head new ≡ mean_head old
   pub number : new.number ≡ old.number
 
--- how many scans its members lost in all
+-- the number of scans that its members, present and past, lost
 abbrev pub lost_of_means : MeanDevice → ℕ
 lost_of_means d = d.totals.lost + sum_by (λ (x : Member). x.lost) (mean_station d).members

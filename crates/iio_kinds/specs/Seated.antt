@@ -1,4 +1,4 @@
--- What always holds of the members of an averaging device. Cited by this crate's private functions alone.
+-- What always holds of the members of an averaging device. Only this crate's private functions cite this file.
 use Rattle.std.specs.Prelude.{◌≡◌, ℕ, ◌+◌, ◌-◌, ◌<◌, ◌≤◌, ◌==◌, ◌&&◌, not, true, List, [], ◌∷◌, map, filter, length, Option, Some, None, IfSome, is_some, if◌then◌else◌}
 use Rattle.std.specs.List.{list_any, AllByRecursion}
 use Rattle.iio_layout.specs.Layout.{scan_size}
@@ -23,7 +23,8 @@ abbrev pub slot_at : MemberId → List MeanSeat → Option ℕ
 slot_at id [] = None
 slot_at id (s ∷ ss) = if s.number == id.number && s.mask.bits == id.mask then Some s.slot else slot_at id ss
 
--- a member of that mask, whose queue has scans of it; it was offered no more scans than there were means
+-- the member has the seat's mask and capacity, and scans of that mask's size; it was offered no more scans than there were
+-- means
 pub record IsMemberOf (shape : ShapeRecord) (captures : ℕ) (s : MeanSeat) (m : Membership) : Type 0 where
   pub mask : m.mask.bits ≡ s.mask.bits
   pub capacity : m.queue.capacity ≡ s.capacity
@@ -35,7 +36,7 @@ pub record IsSeated (shape : ShapeRecord) (captures next : ℕ) (slots : List (O
   pub live : is_some (member_at s.slot slots) ≡ true
   pub member : IfSome (member_at s.slot slots) (IsMemberOf shape captures s)
 
--- each seat is of a member
+-- each seat has a member
 abbrev pub AreSeated : ShapeRecord → (captures next : ℕ) → List (Option Membership) → List MeanSeat → Type 0
 AreSeated shape captures next slots seats = AllByRecursion (IsSeated shape captures next slots) seats
 
@@ -43,11 +44,11 @@ AreSeated shape captures next slots seats = AllByRecursion (IsSeated shape captu
 abbrev pub HasSeats : List (Option Membership) → List MeanSeat → Type 0
 HasSeats slots seats = (slot : ℕ) → is_some (member_at slot slots) ≡ true → list_any (λ (s : MeanSeat). s.slot == slot) seats ≡ true
 
--- without a member no captures count towards the next mean
+-- if there is no member, no captures count towards the next mean
 abbrev pub BeginsAnew : List MeanSeat → Window → Type 0
 BeginsAnew seats window = is_empty seats ≡ true → (window.count ≡ 0) × (window.sums ≡ [])
 
--- the sums are of as many values as a capture has
+-- if a capture counts towards the next mean, there are as many sums as it has values
 abbrev pub IsWide : ShapeRecord → Window → Type 0
 IsWide shape window = 1 ≤ window.count → length window.sums ≡ width_of shape
 
@@ -61,11 +62,11 @@ pub record IsSeating (a : AverageRecord) (captures next starts : ℕ) (seats : L
   pub wide : IsWide a.shape a.window
   pub begun : starts + (length seats - 1) ≤ next
 
--- the number of the attachment with a member more
+-- the number of the attachment after another member's joining
 abbrev pub attachment_with : List MeanSeat → (starts : ℕ) → ℕ
 attachment_with seats starts = if is_empty seats then starts + 1 else starts
 
--- and with the last one less
+-- the number of the attachment after the last member's joining is undone
 abbrev pub attachment_without : List MeanSeat → (starts : ℕ) → ℕ
 attachment_without seats starts = if is_empty seats then starts - 1 else starts
 

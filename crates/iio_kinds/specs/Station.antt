@@ -1,4 +1,4 @@
--- A device, as an `Iio` tells it.
+-- The station of a device, as an `Iio` tells it.
 use Rattle.std.specs.Prelude.{◌≡◌, ℕ, List, [], map, Option, None, Some}
 use Rattle.iio_desc.specs.Description.{DeviceHead}
 use Rattle.iio_desc.specs.Kind.{Kind, Input, Output, Average}
@@ -19,7 +19,7 @@ use Rattle.iio_kinds.specs.Inner.{with_inner_name}
 use Rattle.iio_kinds.specs.MeanStation.{mean_head, mean_station}
 use Rattle.iio_kinds.specs.OutStation.{out_head, out_station}
 
--- a member of an input device, and the device
+-- a member of an input device, and the device itself
 abbrev pub member_of : Membership Queue → Member
 member_of m = plain_member (λ (q : Queue). q.lost) (λ q. q.capacity) queue_waits m
 
@@ -27,18 +27,18 @@ abbrev pub station_of : DeviceView Queue → Station
 station_of d = plain_station (λ (q : Queue). q.lost) (λ q. q.capacity) queue_waits d
 
 module _ {X : Type 0} {V : X → Type 0} {g : Ghosts Queue} (driver : Plug X V → Driver) where
-  -- the view of a device that samples by this driver
+  -- the view of a device that samples by that driver
   abbrev pub view_by : Fitted (IioDev Queue g) X V → DeviceView Queue
   view_by d = view_of driver d.core d.plug
 
   abbrev pub station_by : Fitted (IioDev Queue g) X V → Station
   station_by d = station_of (view_by d)
 
--- what no call changes of it
+-- what no call changes
 abbrev pub head_by : {g : Ghosts Queue} → IioDev Queue g → DeviceHead
 head_by core = record { name = core.name; kind = Input; shape = core.roster.shape }
 
--- a device of whichever kind
+-- a device of any kind
 module _ {X : Type 0} {V : X → Type 0} (driver : Plug X V → Driver) where
   -- an input device's inner members are told as such
   abbrev pub in_station : InDevice X V → Station
@@ -53,13 +53,13 @@ module _ {X : Type 0} {V : X → Type 0} (driver : Plug X V → Driver) where
   stations_by devices = map any_station devices
 
 module _ {X : Type 0} {V : X → Type 0} where
-  -- its number
+  -- the number of a device
   abbrev pub number_by : AnyDevice X V → ℕ
   number_by (any.Input d) = d.device.core.number
   number_by (any.Output x) = x.number
   number_by (any.Average a) = a.number
 
-  -- how many captures it has made of its own sensor
+  -- the number of captures that it has made by its own sensor
   abbrev pub captures_by : AnyDevice X V → ℕ
   captures_by (any.Input d) = d.device.core.roster.captures
   captures_by (any.Output x) = 0
@@ -71,13 +71,13 @@ module _ {X : Type 0} {V : X → Type 0} where
   room_by (any.Output x) = x.room.items
   room_by (any.Average a) = []
 
-  -- the scan of all channels that an input device's inner members took last
+  -- the scan of all channels that the inner members of an input device took last
   abbrev pub full_scan_by : AnyDevice X V → List ℕ
   full_scan_by (any.Input d) = d.room.items
   full_scan_by (any.Output x) = []
   full_scan_by (any.Average a) = []
 
-  -- what no call changes of it
+  -- what no call changes
   abbrev pub in_head : InDevice X V → DeviceHead
   in_head d = head_by d.device.core
 
@@ -90,12 +90,12 @@ module _ {X : Type 0} {V : X → Type 0} where
     pub front : any_front new ≡ any_front old
     pub number : number_by new ≡ number_by old
 
-  -- what no connection's call changes of it: such a call makes no capture
+  -- what no connection's call changes: such a call makes no capture
   pub record KeepsFront (old new : AnyDevice X V) : Type 0 where
     pub head : KeepsHead old new
     pub captures : captures_by new ≡ captures_by old
 
-  -- ... of an input device. Cited by this crate's private functions alone
+  -- what no call changes of an input device. Only this crate's private functions cite it
   pub record KeepsIn (old new : InDevice X V) : Type 0 where
     pub front : in_head new ≡ in_head old
     pub number : new.device.core.number ≡ old.device.core.number

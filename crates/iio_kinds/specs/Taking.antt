@@ -1,4 +1,4 @@
--- What an input device's inner members take of a capture. Cited by this crate's private functions alone.
+-- What an input device's inner members take of a capture. Only this crate's private functions cite this file.
 use Rattle.std.specs.Prelude.{◌≡◌, ℕ, true, false, ◌∷◌, List, [], map, drop, is_some, if◌then◌else◌}
 use Rattle.std.specs.List.{AllByRecursion}
 use Rattle.iio_device.specs.Site.{is_empty}
@@ -13,7 +13,7 @@ with_taken inners x = if is_some (inner_at inners x.number) then record x { scan
 abbrev pub all_taken : List Inner → Station → Station
 all_taken inners st = record st { members = map (with_taken inners) st.members }
 
--- the room has what the inner members took, where each took the same scan
+-- the room has what the inner members took, if all took the same scan
 abbrev pub AreWaiting : List Inner → List Member → (scan : List ℕ) → Type 0
 AreWaiting inners members scan = AllByRecursion (λ (x : Member). is_some (inner_at inners x.number) ≡ true → x.scans ≡ scan ∷ []) members
 

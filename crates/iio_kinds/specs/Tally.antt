@@ -9,13 +9,13 @@ use Rattle.iio_kinds.specs.declared.tally.Tally.{Tally}
 use Rattle.iio_kinds.specs.MeanStation.{lost_of_means}
 use Rattle.iio_kinds.specs.Station.{captures_by}
 
--- a count, which stays at its type's end when it gets there
+-- a count, which stays at the largest value of its type once it gets there
 abbrev pub shown : ℕ → ℕ
 shown n = min n (2 ^ 64 - 1)
 
 module _ {X : Type 0} {V : X → Type 0} where
-  -- how many scans a device's queues gave, how many were lost, and the sum of the bytes of those that were given; an output
-  -- device gives its members nothing, and loses nothing
+  -- the number of scans that a device's queues gave, of those that were lost, and the sum of the bytes of those that were
+  -- given; an output device gives its members nothing, and loses nothing
   abbrev pub scans_by : AnyDevice X V → ℕ
   scans_by (any.Input d) = d.device.core.totals.scans
   scans_by (any.Output x) = 0

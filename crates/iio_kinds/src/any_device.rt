@@ -1,7 +1,7 @@
 //! A device of a bench, of whichever kind.
 //!
-//! A call that fits no device of a kind asks in its `requires` for another kind. A refusal that is answered is a [`No`]: an errno, or
-//! want of memory, after which nothing has changed.
+//! A call that doesn't apply to a kind excludes it in its `requires`. A refusal is a [`No`]: an errno, or memory that ran out,
+//! after which nothing has changed.
 
 ghost use Rattle.std.specs.Prelude.{◌≡◌, ◌≢◌, ◌==◌, ◌&&◌, ◌+◌, ◌-◌, ◌*◌, ◌^◌, ◌≤◌, ◌<◌, not, true, false, Err, IfOk, IfSome, None, Some, is_some, length, map, vec_capacity};
 ghost use Rattle.std.specs.List.{list_any};
@@ -50,11 +50,11 @@ use std::alloc::Global;
 /// A device of a bench.
 #[derive(Drop)]
 pub enum AnyDevice {
-    /// Its sensor is asked.
+    /// An input device: its sensor is asked.
     Input(InDevice),
-    /// It is given what its one member writes.
+    /// An output device: it is given what its only member writes.
     Output(OutDevice),
-    /// It makes means of the captures of an input device.
+    /// An averaging device: it makes means of the captures of an input device.
     Average(MeanDevice),
 }
 
@@ -133,7 +133,7 @@ impl AnyDevice {
         }
     }
 
-    /// Whether an averaging device has given its last member number, 2^64 - 2: no further member can join.
+    /// Whether an averaging device has given out its last member number, 2^64 - 2: no further member can join.
     pub fn has_no_number(&self) -> bool
         requires { is_average (any_front self.now).kind ≡ true }
         ensures { result ≡ has_no_number (any_station ⟦<Plug as Sensor>⟧.driver self.now) }
@@ -144,7 +144,7 @@ impl AnyDevice {
         }
     }
 
-    /// The number of its trigger, if it is on one. An averaging device is on its base's, and has none of its own.
+    /// The number of its trigger, if it has one. An averaging device uses its base's, and has none of its own.
     pub fn trigger(&self) -> Option<u32>
         ensures { result ≡ (any_station ⟦<Plug as Sensor>⟧.driver self.now).site.trigger }
     {
@@ -155,8 +155,8 @@ impl AnyDevice {
         }
     }
 
-    /// Puts it on another trigger, by its number, which is below 16, or on none. `ENODEV` if it is unplugged, else `EBUSY` while
-    /// it has a member.
+    /// Gives it the trigger of that number, which is below 16, or takes its trigger away. `ENODEV` if it is unplugged,
+    /// otherwise `EBUSY` if it has a member.
     pub fn set_trigger(&mut self, trigger: Option<u32>) -> Result<(), No>
         requires own { is_average (any_front self.old).kind ≡ false }
         requires trigger { IfSome trigger (λ t. t < MAX_TRIGGERS) }
@@ -171,9 +171,10 @@ impl AnyDevice {
         }
     }
 
-    /// The number of its trigger, if a member of that mask may join by it. Else the first of these that holds: `ENODEV` if it is
-    /// unplugged, `EBUSY` if it is an output device with a writer, `EINVAL` if it is on no trigger or none of its listed masks serves
-    /// the members with the new one, `ENOSPC` if the trigger has no place left or the member numbers have run out.
+    /// Returns the number of its trigger if a member of that mask may join by it. Otherwise the first of these that holds:
+    /// `ENODEV` if it is unplugged, `EBUSY` if it is an output device with a writer, `EINVAL` if it has no trigger or none of
+    /// its listed masks serves the members with the new one, `ENOSPC` if the trigger has no place left or the member numbers
+    /// have run out.
     pub fn host(&self, triggers: &[Trigger], mask: Mask) -> Result<usize, No>
         requires own { is_average (any_front self.now).kind ≡ false }
         requires hosted { is_hosted (length triggers.now) (any_station ⟦<Plug as Sensor>⟧.driver self.now) ≡ true }
@@ -190,8 +191,9 @@ impl AnyDevice {
         }
     }
 
-    /// A new member joins by that trigger, as [`host`](AnyDevice::host) allows, with an empty queue for `capacity` scans. A cyclic
-    /// writer's scans come round again. `inner` is the number of the averaging device whose inner member it is, if it is one.
+    /// Adds a member by that trigger, as [`host`](AnyDevice::host) allows, with an empty queue for `capacity` scans. If
+    /// `cyclic`, the member is a writer whose scans come round again. `inner` is the number of the averaging device whose inner
+    /// member it is, if it is one.
     pub fn join(
         &mut self,
         alloc: Global,
@@ -223,9 +225,10 @@ impl AnyDevice {
         }
     }
 
-    /// The writer of that number and mask writes scans to an output device. Answers how many of the bytes were taken, always whole
-    /// scans. `ENODEV` if it is unplugged, `EINVAL` if the bytes are no whole number of scans, or more than a cyclic
-    /// writer's queue holds, `EBUSY` if what a cyclic writer wrote stands already, `EAGAIN` if there is no room for one scan.
+    /// Writes scans to an output device, for the writer of that number and mask. Returns how many of the bytes were taken,
+    /// which is always whole scans. `ENODEV` if it is unplugged, `EINVAL` if the bytes aren't a whole number of scans or are
+    /// more than a cyclic writer's queue holds, `EBUSY` if a cyclic writer has already written its scans, `EAGAIN` if there is
+    /// no room for one scan.
     pub fn write(&mut self, number: u64, mask: Mask, bytes: &[u8]) -> Result<u32, No>
         requires { is_output (any_front self.old).kind ≡ true }
         ensures acts { Acts (λ st. record st
@@ -241,8 +244,8 @@ impl AnyDevice {
         }
     }
 
-    /// The member of that number leaves, and with it what waits for it. The last one gives the device's place at the trigger back.
-    /// Without such a member, or for an inner one, nothing changes.
+    /// Removes the member of that number, with the scans that wait for it. When the last one leaves, the device's place at the
+    /// trigger is freed. If there is no such member, or it is an inner one, nothing changes.
     pub fn leave(&mut self, number: u64, trigger: &mut Trigger)
         requires own { is_average (any_front self.old).kind ≡ false }
         ensures station { any_station ⟦<Plug as Sensor>⟧.driver self.new ≡ station_after_leave number (any_station ⟦<Plug as Sensor>⟧.driver self.old) }
@@ -267,7 +270,7 @@ impl AnyDevice {
         }
     }
 
-    /// The inner member of the averaging device of that number, if there is one, leaves an input device.
+    /// Removes from an input device the inner member of the averaging device of that number, if there is one.
     pub fn leave_inner(&mut self, average: u32, trigger: &mut Trigger)
         requires { is_input (any_front self.old).kind ≡ true }
         ensures station { any_station ⟦<Plug as Sensor>⟧.driver self.new ≡ inner_gone average (any_station ⟦<Plug as Sensor>⟧.driver self.old) }
@@ -281,7 +284,7 @@ impl AnyDevice {
         }
     }
 
-    /// A new member joins an averaging device, with an empty queue for `capacity` means.
+    /// Adds a member to an averaging device, with an empty queue for `capacity` means.
     pub fn join_mean(&mut self, mask: Mask, capacity: u32) -> Result<Seat, No>
         requires average { is_average (any_front self.old).kind ≡ true }
         requires number { has_no_number (any_station ⟦<Plug as Sensor>⟧.driver self.old) ≡ false }
@@ -299,7 +302,7 @@ impl AnyDevice {
         }
     }
 
-    /// Undoes the joining of that member, which was the last call of this averaging device.
+    /// Undoes the joining of that member, which was the last call on this averaging device.
     pub fn undo_join(&mut self, seat: Seat)
         requires average { is_average (any_front self.old).kind ≡ true }
         requires joined { HasJoined seat.mask seat.capacity (any_station ⟦<Plug as Sensor>⟧.driver self.old) }
@@ -314,7 +317,7 @@ impl AnyDevice {
         }
     }
 
-    /// The member of that number, if there is one, leaves an averaging device, and with it what waits for it.
+    /// Removes the member of that number, if there is one, from an averaging device, with the scans that wait for it.
     pub fn leave_mean(&mut self, number: u64)
         requires { is_average (any_front self.old).kind ≡ true }
         ensures station { any_station ⟦<Plug as Sensor>⟧.driver self.new ≡ station_after_leave number (any_station ⟦<Plug as Sensor>⟧.driver self.old) }
@@ -326,8 +329,8 @@ impl AnyDevice {
         }
     }
 
-    /// An averaging device takes a capture of its base, as the scan of all channels. At the end of a window each member is offered
-    /// the mean. It has made fewer than 2^64 - 1 means.
+    /// Gives an averaging device a capture of its base, as the scan of all channels. At the end of a window each member is
+    /// offered the mean. The device must have made fewer than 2^64 - 1 means.
     pub fn gather(&mut self, scan: &[u8])
         requires average { is_average (any_front self.old).kind ≡ true }
         requires size { length scan.now ≡ scan_size (any_front self.old).shape (full_mask (any_front self.old).shape) }
@@ -343,9 +346,10 @@ impl AnyDevice {
         }
     }
 
-    /// The member of a seat at an input device begins anew under another mask, whose scans have `size` bytes, with an empty queue.
-    /// Answers how many scans waited and are discarded; the caller then sets the seat's mask and size. `ENODEV` if it is unplugged,
-    /// `EBADF` if the member isn't there, `EINVAL` if none of the listed masks serves the other members with the new mask.
+    /// Gives the member of a seat at an input device another mask, whose scans have `size` bytes, and an empty queue: it begins
+    /// anew. Returns how many scans waited and are discarded; the caller then sets the seat's mask and size. `ENODEV` if it is
+    /// unplugged, `EBADF` if the member isn't there, `EINVAL` if none of the listed masks serves the other members with the new
+    /// mask.
     pub fn remask(&mut self, alloc: Global, seat: &Seat, mask: Mask, size: u32) -> Result<u64, No>
         requires input { is_input (any_front self.old).kind ≡ true }
         requires below { mask.bits < 2 ^ count_of (any_front self.old).shape }
@@ -365,8 +369,8 @@ impl AnyDevice {
         }
     }
 
-    /// Takes the oldest scan that waits for the member of that number and mask, at an input or averaging device. `Empty` if none
-    /// waits, `Gone` if none waits and the device is unplugged.
+    /// Takes the oldest scan that waits for the member of that number and mask, at an input or averaging device. Returns
+    /// `Empty` if none waits, and `Gone` if none waits and the device is unplugged.
     pub fn take(&mut self, number: u64, mask: Mask, out: &mut [u8]) -> Took
         requires read { is_output (any_front self.old).kind ≡ false }
         requires size { length out.old ≡ scan_size (any_front self.old).shape mask.bits }
@@ -381,7 +385,8 @@ impl AnyDevice {
         }
     }
 
-    /// Takes the oldest scans as [`take`](AnyDevice::take) does, at most `most`, and appends them to `out`, which has room for them.
+    /// Takes the oldest scans, at most `most`, and appends them to `out`, which must have room for them; otherwise like
+    /// [`take`](AnyDevice::take).
     pub fn take_scans(&mut self, number: u64, mask: Mask, most: u32, out: &mut Vec<u8>) -> Took
         requires read { is_output (any_front self.old).kind ≡ false }
         requires some { 1 ≤ most }
@@ -412,8 +417,8 @@ impl AnyDevice {
         }
     }
 
-    /// The value of an attribute that it has. `ENODEV` if it is unplugged. `raw` of an input device asks the sensor at `t`: `EBUSY`
-    /// while the device has a member, `EIO` if the sensor fails.
+    /// Returns the value of an attribute that it has. `ENODEV` if it is unplugged. `raw` of an input device asks the sensor at
+    /// `t`: `EBUSY` if the device has a member, `EIO` if the sensor fails.
     pub fn read_attr(&mut self, t: i64, channel: Option<u32>, attr: Attr) -> Result<Value, No>
         requires { MayReadOf (any_front self.old) channel attr }
         ensures reads { Reads (any_front self.old) t channel attr (any_station ⟦<Plug as Sensor>⟧.driver self.old) result
@@ -441,7 +446,8 @@ impl AnyDevice {
         }
     }
 
-    /// Makes that connection the holder of an input device's events. `ENODEV` if it is unplugged, `EBUSY` if they have a holder.
+    /// Makes the connection `who` the holder of an input device's events. `ENODEV` if it is unplugged, `EBUSY` if they have a
+    /// holder.
     pub fn ev_open(&mut self, who: u32) -> Result<(), No>
         requires { is_input (any_front self.old).kind ≡ true }
         ensures acts { Acts (with_site (with_monitor (after_open who))) (ev_open_answer (any_station ⟦<Plug as Sensor>⟧.driver self.old))
@@ -454,8 +460,8 @@ impl AnyDevice {
         }
     }
 
-    /// Takes the oldest event that waits for their holder. `ENODEV` if the device is unplugged, `EBADF` if the connection isn't the
-    /// holder; `None` if no event waits.
+    /// Takes the oldest event that waits for its holder, and returns `None` if none waits. `ENODEV` if the device is unplugged,
+    /// `EBADF` if the connection `who` isn't the holder.
     pub fn ev_read(&mut self, who: u32) -> Result<Option<EventData>, No>
         requires { is_input (any_front self.old).kind ≡ true }
         ensures acts { Acts (with_site (with_monitor (after_read (λ a b. a == b) who))) (ev_read_answer who (any_station ⟦<Plug as Sensor>⟧.driver self.old))
@@ -468,7 +474,7 @@ impl AnyDevice {
         }
     }
 
-    /// Ends that connection's holding of an input device's events. `EBADF` if it isn't their holder.
+    /// Ends the holding of an input device's events by the connection `who`. `EBADF` if it isn't their holder.
     pub fn ev_close(&mut self, who: u32) -> Result<(), No>
         requires { is_input (any_front self.old).kind ≡ true }
         ensures no_memory { result ≢ Err Mem }
@@ -507,7 +513,8 @@ impl AnyDevice {
         }
     }
 
-    /// Handles the device's entry at a trigger, and takes it off; `dev` is the device's number. `None` exactly if it has no entry.
+    /// Handles the device's entry at a trigger, and removes it; `dev` is the device's number. Returns `None` exactly if it has
+    /// no entry.
     #[inline(always)]
     pub fn handle(&mut self, trigger: &mut Trigger, dev: u32) -> Option<Became>
         requires number { dev ≡ number_by self.old }
@@ -537,7 +544,7 @@ impl AnyDevice {
         }
     }
 
-    /// The scan that an output device was given last, of its writer's mask; empty for another kind.
+    /// The scan that an output device was given last, under its writer's mask; empty for another kind.
     pub fn room(&self) -> &[u8]
         ensures { result.now ≡ room_by self.now }
     {
@@ -557,7 +564,7 @@ impl AnyDevice {
         }
     }
 
-    /// Looks at an input device's thresholds at a moment; another kind has none, and asks nothing.
+    /// Looks at an input device's thresholds at the moment `t`; a device of another kind has none, and nothing is asked.
     pub fn sense(&mut self, t: i64) -> Sensed
         ensures answer { result ≡ kind_sensed (any_front self.old).kind (any_front self.old).shape t (any_station ⟦<Plug as Sensor>⟧.driver self.old) }
         ensures station { any_station ⟦<Plug as Sensor>⟧.driver self.new
@@ -571,7 +578,7 @@ impl AnyDevice {
         }
     }
 
-    /// Unplugs it, for good. Answers whether it was plugged.
+    /// Unplugs it for good. Returns whether it was plugged.
     pub fn unplug(&mut self) -> bool
         ensures answer { result ≡ (any_station ⟦<Plug as Sensor>⟧.driver self.old).site.plugged }
         ensures station { any_station ⟦<Plug as Sensor>⟧.driver self.new ≡ with_site unplugged (any_station ⟦<Plug as Sensor>⟧.driver self.old) }

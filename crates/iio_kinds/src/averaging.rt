@@ -40,14 +40,14 @@ fn slot_by(seats: &[MeanSeat], number: u64) -> Option<u32>
     None
 }
 
-// The member of that number is taken out, where it is there.
+// Removes the member of that number if it is there.
 fn drop_seat(seats: &mut Vec<MeanSeat>, number: u64)
     ensures { seats.new.items ≡ seats_without number seats.old.items }
 {
     seats.retain(|seat| seat.number != number);
 }
 
-// The number of the attachment once only these are left.
+// The number of the attachment after the last member's joining is undone; these are the members that are left.
 fn attachment_without(seats: &[MeanSeat], starts: u64) -> u64
     ensures { result ≡ attachment_without seats.now starts }
 {
@@ -58,7 +58,7 @@ fn attachment_without(seats: &[MeanSeat], starts: u64) -> u64
     }
 }
 
-// The slot of the member of that number, under that mask.
+// The slot of the member of that number and mask.
 fn slot_of(seats: &[MeanSeat], number: u64, mask: Mask) -> Option<u32>
     ensures { result ≡ slot_at (id_of number mask) seats.now }
 {
@@ -71,7 +71,7 @@ fn slot_of(seats: &[MeanSeat], number: u64, mask: Mask) -> Option<u32>
 }
 
 impl MeanDevice {
-    /// An averaging device before the first step, over the base of that number, whose channels `shape` has.
+    /// An averaging device before the first step, over the base of that number; `shape` has the base's channels.
     pub fn new(
         alloc: Global,
         name: Name,
@@ -100,7 +100,7 @@ impl MeanDevice {
         })
     }
 
-    // The number of the attachment with a member more.
+    // The number of the attachment after another member's joining.
     fn attachment_with(&self) -> u64
         requires { has_no_number (mean_station self.now) ≡ false }
         ensures { result ≡ attachment_with self.now.seats.items self.now.starts }
@@ -112,7 +112,7 @@ impl MeanDevice {
         }
     }
 
-    /// A member more.
+    /// Adds a member.
     pub(crate) fn join(&mut self, mask: Mask, capacity: u32) -> Result<Seat, No>
         requires number { has_no_number (mean_station self.old) ≡ false }
         requires below { mask.bits < 2 ^ count_of self.old.average.shape }
@@ -162,7 +162,7 @@ impl MeanDevice {
         self.starts = attachment_without(&self.seats, self.starts);
     }
 
-    /// The member of that number leaves; what waits is gone with it.
+    /// Removes the member of that number, with the scans that wait for it.
     pub(crate) fn leave(&mut self, number: u64)
         ensures station { mean_station self.new ≡ station_after_leave number (mean_station self.old) }
         ensures keeps { KeepsMean self.old self.new }
@@ -175,14 +175,14 @@ impl MeanDevice {
         let _was = self.average.leave(slot);
     }
 
-    // How many means it has made.
+    // The number of means that it has made.
     fn made(&self) -> u64
         ensures { result ≡ self.now.captures }
     {
         self.captures
     }
 
-    /// Takes a capture of its base, as its scan of all channels. It has made fewer than 2^64 - 1 means.
+    /// Takes a capture of its base, as the scan of all channels. It must have made fewer than 2^64 - 1 means.
     pub(crate) fn gather(&mut self, scan: &[u8])
         requires size { length scan.now ≡ scan_size self.old.average.shape (full_mask self.old.average.shape) }
         requires fewer { is_last self.old.captures ≡ false }
@@ -201,7 +201,7 @@ impl MeanDevice {
         }
     }
 
-    // The answer where no scan waits.
+    // The answer if no scan waits.
     fn nothing(&self) -> Took
         ensures { result ≡ nothing_at (mean_station self.now) }
     {
@@ -212,7 +212,7 @@ impl MeanDevice {
         }
     }
 
-    // Takes the oldest scan of that member, which is there at that slot.
+    // Takes the oldest scan of the member in that slot.
     fn take_at(&mut self, slot: u32, _number: u64, _mask: Mask, out: &mut [u8]) -> Took
         requires there { slot_at (id_of _number _mask) self.old.seats.items ≡ Some slot }
         requires size { length out.old ≡ scan_size self.old.average.shape _mask.bits }
@@ -226,7 +226,7 @@ impl MeanDevice {
         Took::Scan
     }
 
-    // Takes the oldest scans of that member, which is there at that slot.
+    // Appends the oldest scans of the member in that slot, at most `most`, to `out`.
     fn take_scans_at(
         &mut self,
         slot: u32,
@@ -252,7 +252,7 @@ impl MeanDevice {
         Took::Scan
     }
 
-    /// Takes the oldest scan of the member of that number, under that mask.
+    /// Takes the oldest scan of the member of that number and mask.
     pub(crate) fn take(&mut self, number: u64, mask: Mask, out: &mut [u8]) -> Took
         requires { length out.old ≡ scan_size self.old.average.shape mask.bits }
         ensures takes { TakesAt (id_of number mask) result out.new (mean_station self.old) (mean_station self.new) }
@@ -264,7 +264,7 @@ impl MeanDevice {
         }
     }
 
-    /// Takes the oldest scans of the member of that number, under that mask, at most `most`, and appends them.
+    /// Appends the oldest scans of the member of that number and mask, at most `most`, to `out`.
     pub(crate) fn take_scans(
         &mut self,
         number: u64,
@@ -285,7 +285,8 @@ impl MeanDevice {
         }
     }
 
-    /// How many scans of the member of that number, under that mask, wait, and how many were lost.
+    /// The number of scans that wait for the member of that number and mask, and of those that it lost; both are 0 if it isn't
+    /// there.
     pub(crate) fn counts(&self, number: u64, mask: Mask) -> Counts
         ensures waiting { result.waiting ≡ length (scans_in (id_of number mask) (mean_station self.now).members) }
         ensures lost { result.lost ≡ lost_in (id_of number mask) (mean_station self.now).members }
@@ -302,7 +303,7 @@ impl MeanDevice {
         }
     }
 
-    /// How many scans its members lost in all. It stays at 2^64 - 1 when it gets there.
+    /// The number of scans that its members, present and past, lost. It stays at 2^64 - 1 once it gets there.
     pub(crate) fn overruns(&self) -> u64
         ensures { result ≡ min (lost_of_means self.now) (2 ^ 64 - 1) }
     {
@@ -313,7 +314,7 @@ impl MeanDevice {
         total
     }
 
-    /// The value of its one attribute beside those of its buffer, which is its name.
+    /// Returns its name, which is its only attribute besides those of its buffer.
     pub(crate) fn read_attr(&self, _t: i64, _channel: Option<u32>, _attr: Attr) -> Result<Value, No>
         requires { MayReadOf (mean_head self.now) _channel _attr }
         ensures { Reads (mean_head self.now) _t _channel _attr (mean_station self.now) result (mean_station self.now) }
@@ -324,7 +325,7 @@ impl MeanDevice {
         Ok(Value::Text(self.name.copy()))
     }
 
-    /// A look at its thresholds, of which it has none.
+    /// Answers a look at its thresholds; it has none.
     pub(crate) fn sense(&self, _t: i64) -> Sensed
         ensures answer { result ≡ kind_sensed (mean_head self.now).kind self.now.average.shape _t (mean_station self.now) }
         ensures station { mean_station self.now ≡ station_after_look self.now.average.shape _t (mean_station self.now) }
@@ -332,7 +333,7 @@ impl MeanDevice {
         Sensed::Fired(0)
     }
 
-    /// Unplugs it. It says whether it was plugged.
+    /// Unplugs it. Returns whether it was plugged.
     pub(crate) fn unplug(&mut self) -> bool
         ensures answer { result ≡ self.old.plugged }
         ensures station { mean_station self.new ≡ with_site unplugged (mean_station self.old) }

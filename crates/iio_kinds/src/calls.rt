@@ -27,7 +27,7 @@ use iio_text::{Errno, Fixed};
 use iio_trigger::Due;
 use iiod_session::{Counts, No, Took, held_no, holder_no, raw_no};
 
-/// The value of an attribute. `raw` asks the sensor at `t`.
+/// Returns the value of an attribute. For `raw` the sensor is asked at `t`.
 pub(crate) fn read_attr(
     device: &mut Device<Kfifo>,
     t: i64,
@@ -68,7 +68,7 @@ fn read_raw(device: &mut Device<Kfifo>, t: i64, c: u32) -> Result<Value, No>
     }
 }
 
-// A value that the device keeps.
+// The value of an attribute that the device keeps.
 fn read_kept(device: &Device<Kfifo>, _t: i64, channel: Option<u32>, attr: Attr) -> Result<Value, No>
     requires channel { IfSome channel (λ c. c < length device.now.core.roster.shape.channels) }
     requires kept { IfSome channel (λ c. attr ≢ Raw) }
@@ -98,7 +98,7 @@ pub(crate) fn write_attr(
     }
 }
 
-/// Gives the device another trigger, or none; a number that is given is below 16.
+/// Gives the device another trigger, or takes its trigger away; a number that is given is below 16.
 pub(crate) fn set_trigger(device: &mut Device<Kfifo>, trigger: Option<u32>) -> Result<(), No>
     requires { IfSome trigger (λ t. t < MAX_TRIGGERS) }
     ensures acts { Acts (with_site (λ site. record site { trigger = trigger })) (trigger_answer (station_by ⟦<Plug as Sensor>⟧.driver device.old))
@@ -111,7 +111,7 @@ pub(crate) fn set_trigger(device: &mut Device<Kfifo>, trigger: Option<u32>) -> R
     }
 }
 
-/// Makes that connection the holder of the device's events.
+/// Makes the connection `who` the holder of the device's events.
 pub(crate) fn ev_open(device: &mut Device<Kfifo>, who: u32) -> Result<(), No>
     requires { ⊤ }
     ensures acts { Acts (with_site (with_monitor (after_open who))) (ev_open_answer (station_by ⟦<Plug as Sensor>⟧.driver device.old))
@@ -127,7 +127,7 @@ pub(crate) fn ev_open(device: &mut Device<Kfifo>, who: u32) -> Result<(), No>
     }
 }
 
-/// Takes the oldest event of that connection.
+/// Takes the oldest event that waits for the connection `who`.
 pub(crate) fn ev_read(device: &mut Device<Kfifo>, who: u32) -> Result<Option<EventData>, No>
     requires { ⊤ }
     ensures acts { Acts (with_site (with_monitor (after_read (λ a b. a == b) who))) (ev_read_answer who (station_by ⟦<Plug as Sensor>⟧.driver device.old))
@@ -143,7 +143,7 @@ pub(crate) fn ev_read(device: &mut Device<Kfifo>, who: u32) -> Result<Option<Eve
     }
 }
 
-/// Ends that connection's holding of the device's events.
+/// Ends the holding of the device's events by the connection `who`.
 pub(crate) fn ev_close(device: &mut Device<Kfifo>, who: u32) -> Result<(), No>
     requires { ⊤ }
     ensures no_memory { result ≢ Err Mem }
@@ -158,7 +158,7 @@ pub(crate) fn ev_close(device: &mut Device<Kfifo>, who: u32) -> Result<(), No>
     }
 }
 
-/// Takes the oldest scan of the member of that number, under that mask.
+/// Takes the oldest scan of the member of that number and mask.
 pub(crate) fn take(device: &mut Device<Kfifo>, number: u64, mask: Mask, out: &mut [u8]) -> Took
     requires { length out.old ≡ scan_size device.old.core.roster.shape mask.bits }
     ensures takes { TakesAt (id_of number mask) result out.new (station_by ⟦<Plug as Sensor>⟧.driver device.old)
@@ -187,7 +187,7 @@ fn take_from(device: &mut Device<Kfifo>, number: u64, _mask: Mask, out: &mut [u8
     }
 }
 
-/// Takes the oldest scans of the member of that number, under that mask, up to `most` of them, and appends them.
+/// Appends the oldest scans of the member of that number and mask, at most `most`, to `out`.
 pub(crate) fn take_scans(
     device: &mut Device<Kfifo>,
     number: u64,
@@ -209,7 +209,7 @@ pub(crate) fn take_scans(
     }
 }
 
-/// The answer where no scan waits.
+/// The answer if no scan waits.
 pub(crate) fn nothing(device: &Device<Kfifo>) -> Took
     ensures { result ≡ nothing_at (station_by ⟦<Plug as Sensor>⟧.driver device.now) }
 {
@@ -220,7 +220,8 @@ pub(crate) fn nothing(device: &Device<Kfifo>) -> Took
     }
 }
 
-/// The numbers of the queue of the member of that number, under that mask.
+/// The number of scans that wait for the member of that number and mask, and of those that it lost; both are 0 if it isn't
+/// there.
 pub(crate) fn counts(device: &Device<Kfifo>, number: u64, mask: Mask) -> Counts
     ensures waiting { result.waiting ≡ length (scans_in (id_of number mask) (station_by ⟦<Plug as Sensor>⟧.driver device.now).members) }
     ensures lost { result.lost ≡ lost_in (id_of number mask) (station_by ⟦<Plug as Sensor>⟧.driver device.now).members }
@@ -238,7 +239,7 @@ pub(crate) fn counts(device: &Device<Kfifo>, number: u64, mask: Mask) -> Counts
     }
 }
 
-/// Handles an entry of the device that was handed out.
+/// Handles an entry of the device that its trigger has handed out.
 #[inline(always)]
 pub(crate) fn handle_due(device: &mut Device<Kfifo>, due: &Due) -> Handled
     requires { due.now.dev ≡ device.old.core.number }

@@ -6,7 +6,7 @@ ghost use Rattle.iio_kinds.specs.Inner.{HasInners};
 use iio_device::Device;
 use iio_kfifo::Kfifo;
 
-/// A member of an input device that is an averaging device's.
+/// An inner member: a member of an input device that belongs to an averaging device.
 #[derive(Clone, Copy, Debug)]
 pub struct Inner {
     /// The member's number at the input device.
@@ -19,9 +19,9 @@ pub struct Inner {
 #[derive(Drop)]
 pub struct InDevice {
     pub(crate) device: Device<Kfifo>,
-    /// Its inner members, in the order of their joining.
+    /// Its inner members, in the order in which they joined.
     pub(crate) inners: Vec<Inner>,
-    /// The scan of all channels that they took last.
+    /// The scan of all channels that the inner members took last.
     pub(crate) room: Vec<u8>,
     ghost sound: { HasInners device.core.roster.shape device.core.roster.members.items inners.items room.items } by { Prim.hlevel props },
 }

@@ -1,4 +1,4 @@
-//! What calls and entries make of an input device with its inner members.
+//! What calls and entries make of an input device and its inner members.
 
 ghost use Rattle.std.specs.Prelude.{◌≡◌, ◌≢◌, ⊤, All, ◌==◌, ◌+◌, ◌*◌, ◌^◌, ◌≤◌, ◌<◌, true, false, [], Err, IfSome, None, Some, is_some, length, map, vec_capacity};
 ghost use Rattle.std.specs.List.{list_any};
@@ -45,7 +45,7 @@ use iio_trigger::{Due, Trigger};
 use iiod_session::{Counts, No, Took};
 use std::alloc::Global;
 
-// The types of a shape's channels are in the profile.
+// Ensures that the types of a shape's channels are in the profile.
 fn see_types(shape: &Shape)
     ensures { All (λ channel. IsInProfile channel.ty) shape.now.channels }
 {
@@ -78,14 +78,14 @@ fn average_at(inners: &[Inner], number: u64) -> Option<u32>
     None
 }
 
-// The inner member of that averaging device is taken out.
+// Removes the inner member of that averaging device.
 fn drop_inner(inners: &mut Vec<Inner>, average: u32)
     ensures { inners.new.items ≡ inners_without average inners.old.items }
 {
     inners.retain(|inner| inner.average != average);
 }
 
-// Each inner member takes the scan that waits for it.
+// Lets each inner member take the scan that waits for it.
 fn take_all(device: &mut Device<Kfifo>, inners: &[Inner], room: &mut [u8])
     requires once { AreApart (map number_of inners.now) }
     requires there { AreThere device.old.core.roster.members.items inners.now }
@@ -107,7 +107,7 @@ fn take_all(device: &mut Device<Kfifo>, inners: &[Inner], room: &mut [u8])
 }
 
 impl InDevice {
-    /// It has no inner member.
+    /// An input device without an inner member.
     pub fn new(alloc: Global, device: Device<Kfifo>) -> InDevice
         requires { ⊤ }
         ensures { (result.device ≡ device) × (result.inners.items ≡ []) }
@@ -127,7 +127,7 @@ impl InDevice {
         average_at(&self.inners, number).is_some()
     }
 
-    /// Gives it another trigger, or none; a number that is given is below 16.
+    /// Gives it another trigger, or takes its trigger away; a number that is given is below 16.
     pub(crate) fn set_trigger(&mut self, trigger: Option<u32>) -> Result<(), No>
         requires { IfSome trigger (λ t. t < MAX_TRIGGERS) }
         ensures acts { Acts (with_site (λ site. record site { trigger = trigger })) (trigger_answer (in_station ⟦<Plug as Sensor>⟧.driver self.old))
@@ -137,7 +137,7 @@ impl InDevice {
         calls::set_trigger(&mut self.device, trigger)
     }
 
-    /// The number of its trigger, where a member of that mask may join by it.
+    /// Returns the number of its trigger if a member of that mask may join by it.
     pub(crate) fn host(&self, triggers: &[Trigger], mask: Mask) -> Result<usize, No>
         requires hosted { is_hosted (length triggers.now) (in_station ⟦<Plug as Sensor>⟧.driver self.now) ≡ true }
         requires below { mask.bits < 2 ^ count_of self.now.device.core.roster.shape }
@@ -149,7 +149,8 @@ impl InDevice {
         host_input(&self.device, triggers, mask)
     }
 
-    /// A member more, which may join by that trigger, and may be the inner one of the averaging device of that number.
+    /// Adds a member, which may join by that trigger. `inner` is the number of the averaging device whose inner member it is,
+    /// if it is one.
     pub(crate) fn join(
         &mut self,
         alloc: Global,
@@ -177,7 +178,7 @@ impl InDevice {
         }
     }
 
-    // As `join`, of the inner member of that averaging device. Its room is made here.
+    // Adds the inner member of that averaging device, otherwise like `join`. Its room is made here.
     fn join_inner(
         &mut self,
         alloc: Global,
@@ -218,7 +219,7 @@ impl InDevice {
         }
     }
 
-    /// The member of that number leaves by the device's trigger; an inner one is nobody's.
+    /// Removes the member of that number, by the device's trigger. An inner member isn't a connection's: then nothing changes.
     pub(crate) fn leave(&mut self, number: u64, trigger: &mut Trigger)
         ensures station { in_station ⟦<Plug as Sensor>⟧.driver self.new ≡ station_after_leave number (in_station ⟦<Plug as Sensor>⟧.driver self.old) }
         ensures trigger { trigger.new
@@ -239,7 +240,7 @@ impl InDevice {
         number_of(&self.inners, average).is_some()
     }
 
-    /// The inner member of the averaging device of that number leaves by the device's trigger, where there is one.
+    /// Removes the inner member of the averaging device of that number, if there is one, by the device's trigger.
     pub(crate) fn leave_inner(&mut self, average: u32, trigger: &mut Trigger)
         ensures station { in_station ⟦<Plug as Sensor>⟧.driver self.new ≡ inner_gone average (in_station ⟦<Plug as Sensor>⟧.driver self.old) }
         ensures trigger { trigger.new
@@ -254,8 +255,8 @@ impl InDevice {
         let _tail = self.device.leave(Member { number }, trigger);
     }
 
-    /// The member of a seat begins anew under another mask, whose scans have `size` bytes: how many
-    /// scans waited for it. The seat is to have that mask and that size then.
+    /// Gives the member of a seat another mask, whose scans have `size` bytes: it begins anew. Returns how many scans waited
+    /// for it. The caller then sets the seat's mask and size to these.
     pub(crate) fn remask(
         &mut self,
         alloc: Global,
@@ -284,7 +285,7 @@ impl InDevice {
         }
     }
 
-    /// Takes the oldest scan of the member of that number, under that mask.
+    /// Takes the oldest scan of the member of that number and mask.
     pub(crate) fn take(&mut self, number: u64, mask: Mask, out: &mut [u8]) -> Took
         requires { length out.old ≡ scan_size self.old.device.core.roster.shape mask.bits }
         ensures takes { TakesAt (id_of number mask) result out.new (in_station ⟦<Plug as Sensor>⟧.driver self.old)
@@ -297,7 +298,7 @@ impl InDevice {
         calls::take(&mut self.device, number, mask, out)
     }
 
-    /// Takes the oldest scans of the member of that number, under that mask, at most `most`, and appends them.
+    /// Appends the oldest scans of the member of that number and mask, at most `most`, to `out`.
     pub(crate) fn take_scans(
         &mut self,
         number: u64,
@@ -319,7 +320,8 @@ impl InDevice {
         calls::take_scans(&mut self.device, number, mask, most, out)
     }
 
-    /// The numbers of the queue of the member of that number, under that mask.
+    /// The number of scans that wait for the member of that number and mask, and of those that it lost; both are 0 if it isn't
+    /// there.
     pub(crate) fn counts(&self, number: u64, mask: Mask) -> Counts
         ensures waiting { result.waiting ≡ length (scans_in (id_of number mask) (in_station ⟦<Plug as Sensor>⟧.driver self.now).members) }
         ensures lost { result.lost ≡ lost_in (id_of number mask) (in_station ⟦<Plug as Sensor>⟧.driver self.now).members }
@@ -333,7 +335,7 @@ impl InDevice {
         calls::counts(&self.device, number, mask)
     }
 
-    /// The value of an attribute. `raw` asks the sensor at `t`.
+    /// Returns the value of an attribute. For `raw` the sensor is asked at `t`.
     pub(crate) fn read_attr(
         &mut self,
         t: i64,
@@ -363,7 +365,7 @@ impl InDevice {
         calls::write_attr(&mut self.device, channel, attr, value)
     }
 
-    /// Makes that connection the holder of its events.
+    /// Makes the connection `who` the holder of its events.
     pub(crate) fn ev_open(&mut self, who: u32) -> Result<(), No>
         ensures acts { Acts (with_site (with_monitor (after_open who))) (ev_open_answer (in_station ⟦<Plug as Sensor>⟧.driver self.old))
             result (in_station ⟦<Plug as Sensor>⟧.driver self.old) (in_station ⟦<Plug as Sensor>⟧.driver self.new) }
@@ -372,7 +374,7 @@ impl InDevice {
         calls::ev_open(&mut self.device, who)
     }
 
-    /// Takes the oldest event of that connection.
+    /// Takes the oldest event that waits for the connection `who`.
     pub(crate) fn ev_read(&mut self, who: u32) -> Result<Option<EventData>, No>
         ensures acts { Acts (with_site (with_monitor (after_read (λ a b. a == b) who))) (ev_read_answer who (in_station ⟦<Plug as Sensor>⟧.driver self.old))
             result (in_station ⟦<Plug as Sensor>⟧.driver self.old) (in_station ⟦<Plug as Sensor>⟧.driver self.new) }
@@ -381,7 +383,7 @@ impl InDevice {
         calls::ev_read(&mut self.device, who)
     }
 
-    /// Ends that connection's holding of its events.
+    /// Ends the holding of its events by the connection `who`.
     pub(crate) fn ev_close(&mut self, who: u32) -> Result<(), No>
         ensures no_memory { result ≢ Err Mem }
         ensures acts { Acts (with_site (with_monitor (after_close (λ a b. a == b) who)))
@@ -392,7 +394,7 @@ impl InDevice {
         calls::ev_close(&mut self.device, who)
     }
 
-    /// Handles an entry of it that was handed out. Each inner member takes its scan of the capture, if any, at once.
+    /// Handles an entry of it that was handed out. If a capture is made, each inner member takes its scan of it at once.
     #[inline(always)]
     pub(crate) fn handle(&mut self, due: &Due) -> Handled
         requires { due.now.dev ≡ self.old.device.core.number }
@@ -417,7 +419,7 @@ impl InDevice {
         handled
     }
 
-    /// Looks at its thresholds at a moment.
+    /// Looks at its thresholds at the moment `t`.
     pub(crate) fn sense(&mut self, t: i64) -> Sensed
         ensures answer { result ≡ sensed_answer self.old.device.core.roster.shape t (in_station ⟦<Plug as Sensor>⟧.driver self.old) }
         ensures station { in_station ⟦<Plug as Sensor>⟧.driver self.new
@@ -427,7 +429,7 @@ impl InDevice {
         self.device.sense(t)
     }
 
-    /// Unplugs it. It says whether it was plugged.
+    /// Unplugs it. Returns whether it was plugged.
     pub(crate) fn unplug(&mut self) -> bool
         ensures answer { result ≡ (in_station ⟦<Plug as Sensor>⟧.driver self.old).site.plugged }
         ensures station { in_station ⟦<Plug as Sensor>⟧.driver self.new ≡ with_site unplugged (in_station ⟦<Plug as Sensor>⟧.driver self.old) }

@@ -1,4 +1,4 @@
-//! Members that come to a device and go.
+//! How members join a device.
 
 ghost use Rattle.std.specs.Prelude.{◌≡◌, ◌*◌, ◌^◌, ◌<◌, ◌≤◌, true, false, None, Some, is_some, length};
 ghost use Rattle.iio_base.specs.Refusals.{first_refusal};
@@ -23,7 +23,7 @@ use iio_trigger::Trigger;
 use iiod_session::{No, no_of};
 use std::alloc::Global;
 
-// As `host`, by a trigger.
+// Returns `trigger`, the number of the device's trigger, if a member of that mask may join by it.
 fn host_at(
     device: &Device<Kfifo>,
     triggers: &[Trigger],
@@ -40,7 +40,7 @@ fn host_at(
     }
 }
 
-// The number of the device's trigger, where a member of that mask may join by it.
+// Returns the number of the device's trigger if a member of that mask may join by it.
 fn host(device: &Device<Kfifo>, triggers: &[Trigger], mask: Mask) -> Result<usize, JoinFault>
     requires { is_hosted (length triggers.now) (station_by ⟦<Plug as Sensor>⟧.driver device.now) ≡ true }
     ensures { Hosts triggers.now (view_by ⟦<Plug as Sensor>⟧.driver device.now) mask.bits result }
@@ -52,7 +52,7 @@ fn host(device: &Device<Kfifo>, triggers: &[Trigger], mask: Mask) -> Result<usiz
     host_at(device, triggers, number as usize, mask)
 }
 
-// A member more at a device, which may join.
+// Adds a member to a device, which it may join.
 fn join(
     alloc: Global,
     device: &mut Device<Kfifo>,
@@ -84,7 +84,7 @@ fn join(
     }
 }
 
-/// The number of an input device's trigger, where a member of that mask may join by it.
+/// Returns the number of an input device's trigger if a member of that mask may join by it.
 pub(crate) fn host_input(
     device: &Device<Kfifo>,
     triggers: &[Trigger],
@@ -102,7 +102,7 @@ pub(crate) fn host_input(
     }
 }
 
-/// A member more at an input device, which may join by that trigger.
+/// Adds a member to an input device, which it may join by that trigger.
 pub(crate) fn join_input(
     alloc: Global,
     device: &mut Device<Kfifo>,

@@ -1,5 +1,5 @@
-//! A device of each kind at a bench: an input device with the inner members that averaging devices have at it, an output device,
-//! an averaging device.
+//! The devices of a bench, of each kind: an input device with the inner members that averaging devices have at it, an output
+//! device, an averaging device.
 #![tactic(auto)]
 
 mod any_device;

@@ -11,12 +11,12 @@ use iio_mask::Mask;
 /// A member of an averaging device.
 #[derive(Clone, Copy, Debug)]
 pub struct MeanSeat {
-    /// The member's number, which none has a second time.
+    /// The member's number, which no other member ever has.
     pub(crate) number: u64,
-    /// Its number at the `Average`.
+    /// The member's number at the `Average`.
     pub(crate) slot: u32,
     pub(crate) mask: Mask,
-    /// How many scans its queue holds.
+    /// The number of scans that its queue can hold.
     pub(crate) capacity: u32,
 }
 
@@ -24,20 +24,20 @@ pub struct MeanSeat {
 #[derive(Drop)]
 pub struct MeanDevice {
     pub(crate) name: Name,
-    /// Its number in the description.
+    /// The device's number in the description.
     pub(crate) number: u32,
-    /// Its base's number.
+    /// The number of its base.
     pub(crate) base: u32,
     pub(crate) average: Average,
     pub(crate) plugged: bool,
-    /// How often a first member has joined: the number of the present attachment.
+    /// The number of times that a first member has joined; it is the number of the present attachment.
     pub(crate) starts: u64,
     /// The number of the next member.
     pub(crate) next: u64,
-    /// How many means it has made.
+    /// The number of means that it has made.
     pub(crate) captures: u64,
     pub(crate) totals: Totals,
-    /// Its members, in the order of their joining.
+    /// Its members, in the order in which they joined.
     pub(crate) seats: Vec<MeanSeat>,
     ghost sound: { IsSeating average captures next starts seats.items } by { Prim.hlevel props },
 }

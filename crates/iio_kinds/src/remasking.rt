@@ -19,7 +19,8 @@ use iio_text::Errno;
 use iiod_session::{No, remask_no};
 use std::alloc::Global;
 
-// The member of a seat gets the mask, with a queue for as many scans of `size` bytes as the seat says: how many scans waited.
+// Gives the member of a seat the mask, with a queue for scans of `size` bytes and of the seat's capacity. Returns how many
+// scans waited.
 fn exchange(
     alloc: Global,
     device: &mut Device<Kfifo>,
@@ -54,8 +55,8 @@ fn exchange(
     }
 }
 
-/// The member of a seat begins anew under another mask, whose scans have `size` bytes: how many scans waited for it. The seat
-/// is to have that mask and that size then.
+/// Gives the member of a seat another mask, whose scans have `size` bytes: it begins anew. Returns how many scans waited for
+/// it. The caller then sets the seat's mask and size to these.
 pub(crate) fn remask(
     alloc: Global,
     device: &mut Device<Kfifo>,

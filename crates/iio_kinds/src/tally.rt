@@ -6,20 +6,20 @@ ghost use Rattle.iio_kinds.specs.Tally.{bytes_by, devices_tally, overruns_by, sc
 
 use crate::any_device::AnyDevice;
 
-/// What was counted in a run. The first three stay at 2^64 - 1 when they get there.
+/// What was counted in a run. The first three stay at 2^64 - 1 once they get there.
 #[derive(Clone, Copy, Debug, PartialEq, Eq, Hash)]
 pub struct Tally {
-    /// Captures of all devices.
+    /// The captures of all devices.
     pub captures: u64,
-    /// Scans that READBUFs gave.
+    /// The scans that READBUFs gave.
     pub scans: u64,
-    /// Scans that were lost because a queue was full, of all queues that members have or had.
+    /// The scans that were lost because a queue was full, over all queues that members have or had.
     pub overruns: u64,
-    /// The sum of all bytes of the scans that were given, modulo 2^64.
+    /// The sum of the values of all bytes of the scans that were given, modulo 2^64.
     pub bytes: u64,
 }
 
-// What a device counted; an output device makes no captures, gives its members nothing and loses nothing.
+// What a device counted. An output device makes no captures, gives its members nothing and loses nothing.
 fn device_tally(device: &AnyDevice) -> Tally
     ensures captures { result.captures ≡ captures_by device.now }
     ensures scans { result.scans ≡ shown (scans_by device.now) }
@@ -62,7 +62,7 @@ fn add_device(tally: &mut Tally, device: &AnyDevice)
     tally.bytes = tally.bytes.wrapping_add(counted.bytes);
 }
 
-/// What devices counted.
+/// The sum of what the devices counted.
 pub fn devices_tally(devices: &[AnyDevice]) -> Tally
     ensures { result ≡ devices_tally devices.now }
 {

@@ -36,7 +36,7 @@ use iio_trigger::{Due, Trigger};
 use iiod_session::{Counts, No};
 use std::alloc::Global;
 
-// What is answered to a payload.
+// The answer to a payload.
 fn answer_of(wrote: Wrote) -> Result<u32, No>
     ensures { result ≡ answer_of wrote }
 {
@@ -73,7 +73,7 @@ impl OutDevice {
         })
     }
 
-    // Whether the writer is that one. The scans of a writer have the size of its mask.
+    // Whether the device's writer has that number and mask. A writer's scans have the size of its mask.
     fn is_live(&self, number: u64, mask: Mask) -> bool
         ensures live { result ≡ is_some (member_in (id_of number mask) (out_station self.now).members) }
         ensures sized { IfSome self.now.out.writer (λ (w : WriterRecord). w.size ≡ scan_size self.now.out.shape w.mask) }
@@ -84,7 +84,7 @@ impl OutDevice {
         }
     }
 
-    // Whether there is no place for it at that trigger; at one that isn't there, there is none.
+    // Whether the trigger of that number has no place for the device; a trigger that isn't there has none.
     fn lacks_place(&self, triggers: &[Trigger], trigger: usize) -> bool
         ensures { result ≡ lacks_place self.now.number triggers.now (Some trigger) }
     {
@@ -94,7 +94,7 @@ impl OutDevice {
         !triggers[trigger].holds(self.number) && !triggers[trigger].free()
     }
 
-    /// The number of its trigger, where it may have a writer by it, of whichever mask.
+    /// Returns the number of its trigger if it may get a writer by it; any mask will do.
     pub(crate) fn host(&self, triggers: &[Trigger]) -> Result<usize, No>
         ensures { (mask : ℕ) → HostsAny triggers.now Output self.now.number self.now.out.shape (out_station self.now) mask result }
     {
@@ -113,7 +113,7 @@ impl OutDevice {
         Ok(trigger as usize)
     }
 
-    /// Starts its writer, which it may have by that trigger.
+    /// Starts a writer, which it may get by that trigger.
     pub(crate) fn start(
         &mut self,
         trigger: &mut Trigger,
@@ -151,7 +151,7 @@ impl OutDevice {
         }
     }
 
-    // The size of a scan of a mask, of which the bits of the device's channels count.
+    // The size of a scan under a mask; only the mask's bits for the device's channels count.
     fn size_under(&self, mask: Mask) -> u32
         ensures { result ≡ scan_size self.now.out.shape mask.bits }
     {
@@ -165,7 +165,7 @@ impl OutDevice {
         scan_size(shape, Mask { bits })
     }
 
-    // The answer to a payload of a writer that isn't there: there is no room for any scan.
+    // The answer to a payload of a writer that isn't there: no scan has room.
     fn write_nowhere(&self, mask: Mask, bytes: &[u8]) -> Result<u32, No>
         ensures { result ≡ nowhere_answer (scan_size self.now.out.shape mask.bits) bytes.now }
     {
@@ -180,7 +180,7 @@ impl OutDevice {
         }
     }
 
-    /// Writes scans by the writer of that number, under that mask.
+    /// Writes scans for the writer of that number and mask.
     pub(crate) fn write(&mut self, number: u64, mask: Mask, bytes: &[u8]) -> Result<u32, No>
         ensures acts { Acts (λ st. record st
             { members = map (writes (id_of number mask) (scans_of (scan_size self.old.out.shape mask.bits) bytes.now)) st.members })
@@ -199,7 +199,7 @@ impl OutDevice {
         }
     }
 
-    /// The writer of that number leaves; what waits is gone with it.
+    /// Removes the writer of that number, with the scans that wait.
     pub(crate) fn leave(&mut self, number: u64, trigger: &mut Trigger)
         ensures station { out_station self.new ≡ station_after_leave number (out_station self.old) }
         ensures trigger { trigger.new ≡ place_left self.old.number (out_station self.old) (out_station self.new) trigger.old }
@@ -216,7 +216,7 @@ impl OutDevice {
         trigger.detach(self.number);
     }
 
-    /// How many scans of that writer wait, and how often none did.
+    /// The number of scans of the writer of that number and mask that wait, and its underruns; both are 0 if it isn't there.
     pub(crate) fn counts(&self, number: u64, mask: Mask) -> Counts
         ensures waiting { result.waiting ≡ length (scans_in (id_of number mask) (out_station self.now).members) }
         ensures lost { result.lost ≡ lost_in (id_of number mask) (out_station self.now).members }
@@ -233,7 +233,7 @@ impl OutDevice {
         }
     }
 
-    /// Gives it another trigger, or none.
+    /// Gives it another trigger, or takes its trigger away.
     pub(crate) fn set_trigger(&mut self, trigger: Option<u32>) -> Result<(), No>
         ensures acts { Acts (with_site (λ site. record site { trigger = trigger })) (trigger_answer (out_station self.old)) result (out_station self.old)
             (out_station self.new) }
@@ -249,7 +249,8 @@ impl OutDevice {
         Ok(())
     }
 
-    /// The value of an attribute that it has: its name, or element 0 of a channel in the last scan that it was given.
+    /// Returns the value of an attribute that it has: its name, or element 0 of a channel in the last scan that it was given
+    /// and that has it.
     pub(crate) fn read_attr(&self, _t: i64, channel: Option<u32>, _attr: Attr) -> Result<Value, No>
         requires { MayReadOf (out_head self.now) channel _attr }
         ensures { Reads (out_head self.now) _t channel _attr (out_station self.now) result (out_station self.now) }
@@ -263,7 +264,7 @@ impl OutDevice {
         }
     }
 
-    /// A look at its thresholds, of which it has none.
+    /// Answers a look at its thresholds; it has none.
     pub(crate) fn sense(&self, _t: i64) -> Sensed
         ensures answer { result ≡ sensed_answer self.now.out.shape _t (out_station self.now) }
         ensures station { out_station self.now ≡ station_after_look self.now.out.shape _t (out_station self.now) }
@@ -275,7 +276,7 @@ impl OutDevice {
         }
     }
 
-    /// Unplugs it. It says whether it was plugged.
+    /// Unplugs it. Returns whether it was plugged.
     pub(crate) fn unplug(&mut self) -> bool
         ensures answer { result ≡ self.old.plugged }
         ensures station { out_station self.new ≡ with_site unplugged (out_station self.old) }
@@ -286,14 +287,14 @@ impl OutDevice {
         was_plugged
     }
 
-    // Whether its entry that was handed out is current.
+    // Whether an entry of it that was handed out is current.
     fn is_due(&self, due: &Due) -> bool
         ensures { result ≡ is_due due.now (out_station self.now) }
     {
         due.attachment() == self.starts && self.out.mask().is_some() && self.plugged
     }
 
-    /// Handles an entry of it that was handed out: it is given the first scan that waits, which then stands in `room`.
+    /// Handles an entry of it that was handed out: it is given the first scan that waits, which is then in `room`.
     pub(crate) fn handle(&mut self, due: &Due) -> Gave
         ensures answer { result ≡ gave_answer due.now (out_station self.old) }
         ensures station { out_station self.new ≡ station_after_entry Output self.old.out.shape (Some due.now) (out_station self.old) }

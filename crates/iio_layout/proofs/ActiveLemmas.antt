@@ -1,4 +1,4 @@
--- The active mask has all that is wanted, and no channel that isn't there; where there is one, there is one for fewer.
+-- The active mask has all that is wanted, and no channel that isn't there; if there is one, there is one for fewer channels.
 use Rattle.std.proofs.Common.{◌≡◌, ◌≢◌, ℕ, zero, suc, nat_lt, ◌*◌, ◌%◌, ◌^◌, ◌<◌, ◌≤◌, ◌==◌, ◌&&◌, ◌||◌, not, Bool, true, false, cond, List, [], ◌∷◌, length, Option, Some, None, is_some, refl, sym, ap, ◌∙◌, inl, inr, arith}
 use Rattle.std.specs.Prelude.{find, option_map, All, IsSome}
 use Rattle.std.proofs.Math.Nat.{mod-le}
@@ -33,7 +33,7 @@ pub matching_mask_contains : (listed : List ℕ) (wanted m : ℕ) → matching_m
 matching_mask_contains [] wanted m h = let same : wanted ≡ m = cc in ap (is_within wanted) (sym same) ∙ self_within wanted
 matching_mask_contains (x ∷ xs) wanted m h = found_passes (λ bits. is_within wanted bits) (x ∷ xs) m h
 
--- what is found is listed, or what was wanted
+-- what is found is one of the listed masks, or what was wanted
 below_by : (b : Bool) (x m n : ℕ) (rest : Option ℕ) → x < n → cond b (Some x) rest ≡ Some m → (rest ≡ Some m → m < n) → m < n
 below_by true x m n rest small h next = let same : x ≡ m = cc in omega (arith, same)
 below_by false x m n rest small h next = next h
@@ -47,7 +47,7 @@ pub matching_mask_below : (listed : List ℕ) (wanted m n : ℕ) → All (λ x. 
 matching_mask_below [] wanted m n all below h = let same : wanted ≡ m = cc in omega (arith, same)
 matching_mask_below (x ∷ xs) wanted m n all below h = found_below (λ bits. is_within wanted bits) (x ∷ xs) m n all h
 
--- where a mask passes a test, one passes a weaker test
+-- if a mask passes a test, a mask passes a weaker test
 found_by : (b : Bool) (test : ℕ → Bool) (x m : ℕ) (rest weaker : Option ℕ) → (b ≡ true → test x ≡ true) → cond b (Some x) rest ≡ Some m
     → (rest ≡ Some m → IsSome weaker) → IsSome (cond (test x) (Some x) weaker)
 found_by true test x m rest weaker passes h next = rw (passes refl) refl
@@ -69,7 +69,7 @@ matching_mask_fewer (x ∷ xs) less wanted m within h =
 
 -- ---- the timestamp's bit
 
--- the data channels of fewer are fewer
+-- fewer channels have fewer data channels
 and_weaker : (p q r : Bool) → (p ≡ true → q ≡ true) → (p && r) ≡ true → (q && r) ≡ true
 and_weaker true q r weaker h = rw (weaker refl) h
 and_weaker false q r weaker h = cc
@@ -90,7 +90,7 @@ is_some-map : {A B : Type 0} (f : A → B) (o : Option A) → IsSome o → IsSom
 is_some-map f None h = h
 is_some-map f (Some x) h = refl
 
--- where there is an active mask, there is one for fewer channels
+-- if there is an active mask, there is one for fewer channels
 pub active_fewer : (shape : ShapeRecord) (less wanted m : ℕ) → is_within less wanted ≡ true → matching_mask shape.listed (data_part shape wanted) ≡ Some m
     → IsSome (active_of shape less)
 active_fewer shape less wanted m within found =
@@ -135,8 +135,7 @@ active_contains shape wanted mask inside = by_stamp (is_some shape.stamp) inside
     by_stamp true inside = by_bit (has wanted n) refl inside
     by_stamp false inside = inside
 
--- nor has it a channel that isn't there
--- a listed mask is one of all channels
+-- the active mask has no channel that isn't there: a listed mask is one of all channels
 pub listed_wider : (listed : List ℕ) (n m : ℕ) → n ≤ m → All (λ mask. (0 < mask) × (mask < 2 ^ n)) listed → All (λ mask. mask < 2 ^ m) listed
 listed_wider listed n m wider all = λ k d within. let more = pow_mono {i = n} {j = m} wider in let own = all k d within in omega (arith, own.1, more)
 
@@ -159,11 +158,11 @@ no_channel : (mask n : ℕ) → ((c : ℕ) → c < n → has mask c ≡ false) �
 no_channel mask zero none = refl
 no_channel mask (suc n) none = rw (none n (omega arith), no_channel mask n (λ c less. none c (omega (arith, less)))) refl
 
--- the empty mask has none
+-- the empty mask has no channel
 pub none_below : (n : ℕ) → has_below 0 n ≡ false
 none_below n = no_channel 0 n (λ c less. rw (bit_at-zero c) refl)
 
--- another has one below a number where its first is
+-- a mask that isn't empty has a channel below a number exactly if its first one is
 pub first_below : (mask n : ℕ) → 0 < mask → mask < 2 ^ 64 → nat_lt (trailing_zeros w64 mask) n ≡ has_below mask n
 first_below mask n some fits =
     let lowest = bit_at-trailing_zeros w64 mask some fits in

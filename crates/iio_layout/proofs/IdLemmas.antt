@@ -17,7 +17,7 @@ use Rattle.iio_layout.specs.declared.channel.Suffix.{Suffix}
 use Rattle.iio_layout.specs.declared.channel.Suffix.TheVariants.{Bare, Number, X, Y, Z}
 use Rattle.iio_layout.specs.Id.{FitsSuffix, axis_of, first_some, id_among, id_of, id_text, kind_text, kinds, number_of, starts_number, suffix_after, suffix_of, suffix_text}
 
--- one digit more
+-- another digit
 pub value_more : (text : List ℕ) (i value : ℕ) → i < length text → is_ascii_digit (get_or text i 0) ≡ true
     → digits_value_after 10 value (drop i text) ≡ digits_value_after 10 (value * 10 + (get_or text i 0 - 48)) (drop (i + 1) text)
 value_more text i value within digit =
@@ -28,7 +28,7 @@ pub digits_more : (text : List ℕ) (i : ℕ) → i < length text → is_ascii_d
     → all_ascii_digits (drop i text) ≡ all_ascii_digits (drop (i + 1) text)
 digits_more text i within digit = at_drop_more all_ascii_digits text i 0 within ∙ rw digit refl
 
--- another byte
+-- a byte that is no digit
 pub digits_other : (text : List ℕ) (i : ℕ) → i < length text → is_ascii_digit (get_or text i 0) ≡ false → all_ascii_digits (drop i text) ≡ false
 digits_other text i within other = at_drop_more all_ascii_digits text i 0 within ∙ rw other refl
 

@@ -1,4 +1,4 @@
--- Places, sizes and scans: bounds, one channel more, and the timestamp.
+-- Places, sizes and scans: bounds, another channel, and the timestamp.
 use Rattle.std.proofs.Common.{◌≡◌, ◌≢◌, ℕ, ◌+◌, ◌-◌, ◌*◌, ◌/◌, ◌%◌, ◌^◌, ◌<◌, ◌≤◌, max, true, false, List, [], ◌∷◌, ◌++◌, length, map, take, sum_by, Option, Some, None, ℤ, refl, sym, ap, ◌∙◌, inl, inr, arith, add-one}
 use Rattle.std.specs.Int.{IsPowerOfTwo, next_multiple_of}
 use Rattle.std.proofs.lemmas.Bool.{cases_lt, cases_eq}
@@ -43,7 +43,7 @@ next_multiple-le x y m some within whole =
           omega (arith, next)
     ]
 
--- what is left of a number between a multiple and the next one, without its remainder
+-- a number between a multiple and the next one, less its remainder, is that multiple
 multiple_is : (y l q : ℕ) → y * q ≤ l → l < y * (q + 1) → l - l % y ≡ y * q
 multiple_is y l q from below =
     elim (cases_lt (l / y) q) [
@@ -54,7 +54,7 @@ multiple_is y l q from below =
       ]
     ]
 
--- the last multiple that begins before the least one at or above a number ends is that one
+-- the last multiple that begins before the least one at or above a number ends is that least one
 pub last_multiple : (x y : ℕ) → 0 < y → x + (y - 1) - (x + (y - 1)) % y ≡ next_multiple_of x y
 last_multiple x y some =
     elim (cases_eq (x % y) 0) [
@@ -69,7 +69,7 @@ last_multiple x y some =
           omega (arith, is, rest)
     ]
 
--- a multiple of nothing
+-- a multiple of zero
 pub next_multiple-zero : (x : ℕ) → next_multiple_of x 0 ≡ x
 next_multiple-zero x = let none = zero-mod 0 in let all = mod-zero x in omega (arith, none, all)
 
@@ -105,7 +105,7 @@ pub end-few : (end size k : ℕ) → IsPowerOfTwo size → 1 ≤ size → size �
     → next_multiple_of end size ≤ MAX_CHANNEL_SIZE * k
 end-few end size k power some within few = next_multiple-le end size (MAX_CHANNEL_SIZE * k) some few (limit_whole size k power within)
 
--- ---- one channel more
+-- ---- another channel
 
 pub next_end : (formats : List Format) (mask c : ℕ) → has mask c ≡ true
     → next_multiple_of (end_below formats mask c) (size_at formats c) + size_at formats c ≡ end_below formats mask (c + 1)
@@ -128,7 +128,7 @@ pub largest_same : (formats : List Format) (mask n largest : ℕ) → has mask n
     → largest ≡ largest_below formats mask (n + 1)
 largest_same formats mask n largest other is_largest = rw (is_largest, add-one, other) (omega arith)
 
--- the larger of two powers of two is one, where the first may be 0
+-- the larger of two powers of two is a power of two, even if the first is 0
 pub max-power : (largest size : ℕ) → (largest ≢ 0 → IsPowerOfTwo largest) → IsPowerOfTwo size → max largest size ≢ 0 → IsPowerOfTwo (max largest size)
 max-power largest size power own some =
     elim (cases_lt size largest) [
@@ -147,7 +147,7 @@ end_within shape mask c within selected =
 
 -- ---- the timestamp
 
--- its type is the last
+-- the timestamp's type is the last
 pub stamp_type : (xs : List Channel) (endian : Endian)
     → format_at (map (λ channel. channel.ty) xs ++ stamp_formats (Some endian)) (length xs) ≡ stamp_format endian
 stamp_type [] endian = refl
@@ -159,7 +159,7 @@ stamp_type_of shape endian stamped =
     ap (λ stamp. format_at (map (λ channel. channel.ty) shape.channels ++ stamp_formats stamp) (length shape.channels)) stamped
     ∙ stamp_type shape.channels endian
 
--- its one value is the moment
+-- the timestamp's one value is the moment
 pub stamp_values : (shape : ShapeRecord) (endian : Endian) (values : List ℤ) (t : ℤ) → shape.stamp ≡ Some endian → length values ≡ width_of shape
     → t ∷ [] ≡ values_at (formats_of shape) (capture_values values t) (length shape.channels)
 stamp_values shape endian values t stamped wide =
@@ -173,7 +173,7 @@ stamp_values shape endian values t stamped wide =
 pub stamped_count : (shape : ShapeRecord) (endian : Endian) → shape.stamp ≡ Some endian → length shape.channels + 1 ≡ count_of shape
 stamped_count shape endian some = let count = count_is shape in let stamp = ap (λ s. length (stamp_formats s)) some in omega arith
 
--- its bytes are those of the moment
+-- the timestamp's bytes are those of the moment
 pub stamp_field : (shape : ShapeRecord) (values : List ℤ) (t : ℤ) (c : ℕ) → length values ≡ width_of shape → length shape.channels ≤ c → c < count_of shape
     → ((format_at (formats_of shape) c).repeat ≡ 1) × (channel_bytes (format_at (formats_of shape) c) (t ∷ []) ≡ field_of shape values t c)
 stamp_field shape values t c wide after within = by_stamp shape.stamp refl

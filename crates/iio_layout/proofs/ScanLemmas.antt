@@ -1,4 +1,4 @@
--- The scan as it is filled: channel by channel of the mask.
+-- A scan as it is filled: channel by channel of the mask.
 use Rattle.std.proofs.Common.{◌≡◌, ℕ, zero, suc, ◌+◌, ◌-◌, ◌%◌, ◌^◌, ◌<◌, ◌≤◌, true, false, cond, List, [], ◌∷◌, ◌++◌, refl, sym, ap, ◌∙◌, inl, inr, arith, append-nil, bit_and}
 use Rattle.std.specs.Prelude.{filter}
 use Rattle.std.specs.List.{range_with_len}
@@ -35,7 +35,7 @@ channels_more mask n =
     let last : range_with_len 0 (suc n) ≡ range_with_len 0 n ++ n ∷ [] = range_more 0 n ∙ ap (λ (k : ℕ). range_with_len 0 n ++ k ∷ []) (omega arith) in
     ap (filter (λ c. has mask c)) last ∙ filter-append (λ c. has mask c) (range_with_len 0 n) (n ∷ [])
 
--- no channel stands above the mask's number
+-- a mask has no channel above its number of bits
 channels_within : (mask n m : ℕ) → mask < 2 ^ n → n ≤ m → channels_below mask m ≡ channels_below mask n
 channels_within mask n zero small within = let same : n ≡ 0 = omega arith in rw same refl
 channels_within mask n (suc m) small within =
@@ -56,12 +56,12 @@ channels_of-within mask n fits small =
 
 -- ---- where they end, and their bytes
 
--- where these channels end, after those that end there
+-- where these channels end, after others that end at `end`
 abbrev pub end_over : List Format → ℕ → List ℕ → ℕ
 end_over formats end [] = end
 end_over formats end (c ∷ cs) = end_over formats (next_multiple_of end (size_at formats c) + size_at formats c) cs
 
--- these channels, after what stands before them
+-- these channels, appended to the bytes before them
 abbrev pub front_over : List Format → List ℤ → List ℕ → List ℕ → List ℕ
 front_over formats values front [] = front
 front_over formats values front (c ∷ cs) = front_over formats values (padded front (size_at formats c) ++ field_at formats values c) cs

@@ -1,10 +1,10 @@
--- What is said of the selected channels, with one channel more.
+-- What is said of the selected channels, with another channel.
 use Rattle.std.proofs.Common.{◌≡◌, ℕ, zero, suc, ◌+◌, Bool, true, false, cond, List, [], ◌∷◌, ◌++◌, refl, sym, ap, ◌∙◌, arith, append_assoc, append-nil, add-one}
 use Rattle.std.proofs.lemmas.List.Elements.{filter-append}
 use Rattle.std.proofs.lemmas.Grind.{flat_map-append}
 use Rattle.std.specs.List.{filter, flat_map, range_with_len}
 
--- numbers in their order, with one number more
+-- numbers in their order, with another number
 pub range_more : (a n : ℕ) → range_with_len a (suc n) ≡ range_with_len a n ++ (a + n) ∷ []
 range_more a zero = ap (λ k. k ∷ []) (omega arith)
 range_more a (suc n) =
@@ -18,7 +18,7 @@ with_step : {A : Type 0} (t : Bool) (f : ℕ → List A) (n : ℕ) → flat_map 
 with_step true f n = append-nil (f n)
 with_step false f n = refl
 
--- what is said of the selected ones, with that of one more where it is selected
+-- what is said of the selected channels, with that of another channel if it is selected
 pub flat_map-selected_more : {A : Type 0} (f : ℕ → List A) (has : ℕ → Bool) (n : ℕ)
     → flat_map f (filter has (range_with_len 0 (n + 1))) ≡ flat_map f (filter has (range_with_len 0 n)) ++ cond (has n) (f n) []
 flat_map-selected_more f has n =

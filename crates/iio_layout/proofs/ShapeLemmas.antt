@@ -26,7 +26,7 @@ repeats xs c x within is some distinct =
     let other = rw (at, sym (get_or_read xs c x within is y)) at apart in
     true≢false (sym found.4 ∙ other)
 
--- a channel that isn't
+-- a channel that isn't the same as any before it
 pub differs : (xs : List Channel) (c : ℕ) (x : Channel) → c < length xs → x ≡ get_or xs c x
     → list_any (λ before. same_channel before x) (take c xs) ≡ false
     → (i : ℕ) (d : Channel) → i < c → same_channel (get_or xs i d) (get_or xs c d) ≡ false
@@ -37,7 +37,7 @@ differs xs c x within is none i d below =
     let some = list_any_at (λ before. same_channel before x) (take c xs) i d (omega (arith, length-take c xs)) here in
     false≢true (sym none ∙ some))
 
--- facts of the listed numbers, and of the masks
+-- facts of the listed numbers are facts of the masks
 pub All-unmap : {X Y : Type 0} (P : Y → Type 0) (f : X → Y) (xs : List X) → All P (map f xs) → All (λ x. P (f x)) xs
 All-unmap P f xs each = λ k d within.
     subst P (get_or-map f xs k d (f d) within) (each k (f d) (omega (arith, length-map xs f)))
@@ -49,7 +49,7 @@ channel_of-at shape text id o spelled is = rw (← spelled) is
 
 -- ---- the first place that passes
 
--- a place that passes, and none before it
+-- the first place that passes: it passes, and none before it does
 pub first_place : {X : Type 0} (p : X → Bool) (xs : List X) (i : ℕ) (d : X) → i < length xs
     → ((k : ℕ) → k < i → p (get_or xs k d) ≡ false) → p (get_or xs i d) ≡ true → position p xs ≡ Some i
 first_place p xs i d within fails passes =
@@ -66,7 +66,7 @@ no_place p (x ∷ xs) fails =
     (position_or_len_is p (x ∷ xs) all x (omega arith) (λ k l. fails k x l) (λ l. absurd (omega (arith, l))))
     ∙ sym (cond_above all all (Some all) None None (omega arith) refl)
 
--- the first one stands among them
+-- the first place that passes is a place of the list
 pub place_within : {X : Type 0} (p : X → Bool) (xs : List X) (i : ℕ) → Some i ≡ position p xs → i < length xs
 place_within p [] i is = absurd (true≢false (ap (λ (o : Option ℕ). is_some o) is))
 place_within p (x ∷ xs) i is = (position-Some p (x ∷ xs) i x (sym is)).0
@@ -80,7 +80,7 @@ other_number kind suffix x n is other =
     and_right (kind_rank x.kind == kind_rank kind) (suffix_rank x.suffix == suffix_rank suffix)
     (ap (λ (s : Suffix). suffix_rank s == suffix_rank suffix) is ∙ ne_eqb (n + 4) (suffix_rank suffix) other)
 
--- and the ID with its own where it has its kind
+-- a channel has the ID with its own number if it has the ID's kind
 own_number : (kind : Kind) (x : Channel) (n : ℕ) → x.suffix ≡ Number n
     → same_id (id_at x) (kind, Number n) ≡ (kind_rank x.kind == kind_rank kind)
 own_number kind x n is =
@@ -92,7 +92,7 @@ own_number kind x n is =
     and_true true = refl
     and_true false = refl
 
--- a suffix that is no number has none of their ranks
+-- a suffix that is no number has the rank of no number
 not_numbered : (suffix : Suffix) → ((n : ℕ) → suffix ≡ Number n → ⊥) → (n : ℕ) → n + 4 ≡ suffix_rank suffix → ⊥
 not_numbered Bare none n is = omega (arith, is)
 not_numbered (Number m) none n is = none m refl
@@ -100,21 +100,21 @@ not_numbered X none n is = omega (arith, is)
 not_numbered Y none n is = omega (arith, is)
 not_numbered Z none n is = omega (arith, is)
 
--- so an ID without a number isn't found
+-- an ID without a number isn't found
 pub none_numbered : (kind : Kind) (suffix : Suffix) (xs : List Channel) → AreNumbered xs → ((n : ℕ) → suffix ≡ Number n → ⊥)
     → None ≡ position (λ channel. same_id (id_at channel) (kind, suffix)) xs
 none_numbered kind suffix xs are none =
     sym (no_place (λ channel. same_id (id_at channel) (kind, suffix)) xs
     (λ k d within. other_number kind suffix (get_or xs k d) k (are k d within) (not_numbered suffix none k)))
 
--- nor one with a number that is no place
+-- an ID with a number that is no place isn't found
 pub number_above : (kind : Kind) (n : ℕ) (xs : List Channel) → AreNumbered xs → length xs ≤ n
     → None ≡ position (λ channel. same_id (id_at channel) (kind, Number n)) xs
 number_above kind n xs are above =
     sym (no_place (λ channel. same_id (id_at channel) (kind, Number n)) xs
     (λ k d within. other_number kind (Number n) (get_or xs k d) k (are k d within) (λ e. omega (arith, e, within, above))))
 
--- nor one whose number is the place of a channel of another kind
+-- an ID whose number is the place of a channel of another kind isn't found
 pub number_of_other_kind : (kind : Kind) (n : ℕ) (x : Channel) (xs : List Channel) → AreNumbered xs → n < length xs → x ≡ get_or xs n x
     → (kind_rank x.kind == kind_rank kind) ≡ false → None ≡ position (λ channel. same_id (id_at channel) (kind, Number n)) xs
 number_of_other_kind kind n x xs are within is other =
@@ -128,7 +128,7 @@ number_of_other_kind kind n x xs are within is other =
       | inr apart ↦ other_number kind (Number n) (get_or xs k d) k (are k d inside) (λ e. apart (omega (arith, e)))
     ]))
 
--- and one whose number is the place of a channel of its kind is found there
+-- an ID whose number is the place of a channel of its kind is found there
 pub number_of_kind : (kind : Kind) (n : ℕ) (x : Channel) (xs : List Channel) → AreNumbered xs → n < length xs → x ≡ get_or xs n x
     → (kind_rank x.kind == kind_rank kind) ≡ true → Some n ≡ position (λ channel. same_id (id_at channel) (kind, Number n)) xs
 number_of_kind kind n x xs are within is same =

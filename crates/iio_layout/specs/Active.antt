@@ -17,12 +17,12 @@ has_data shape mask = has_below mask (length shape.channels)
 abbrev pub data_part : ShapeRecord → ℕ → ℕ
 data_part shape mask = if is_some shape.stamp then without_channel mask (length shape.channels) else mask
 
--- a mask with the timestamp's bit besides, where the wanted one has it
+-- a mask, with the timestamp's bit if the wanted one has it
 abbrev pub with_stamp : ShapeRecord → ℕ → ℕ → ℕ
 with_stamp shape wanted mask =
     if is_some shape.stamp && has wanted (length shape.channels) then union_of mask (2 ^ length shape.channels) else mask
 
--- the active mask: the first listed mask that contains what is wanted of the data channels, or that itself where none are
--- listed; and the timestamp where it is wanted
+-- the active mask: the first listed mask that contains what is wanted of the data channels, or that itself if none are
+-- listed; and the timestamp if it is wanted
 abbrev pub active_of : ShapeRecord → ℕ → Option ℕ
 active_of shape wanted = option_map (with_stamp shape wanted) (matching_mask shape.listed (data_part shape wanted))

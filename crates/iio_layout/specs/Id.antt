@@ -1,5 +1,5 @@
 -- The ID of a channel: its kind, and after it nothing, a number, or an axis. (Kernel ABI, sysfs-bus-iio: the names
--- of channels, as `voltage0` and `accel_x`.)
+-- of channels, such as `voltage0` and `accel_x`.)
 use Rattle.std.specs.Prelude.{ℕ, ◌+◌, ◌<◌, ◌==◌, nat_eq, nat_lt, Bool, false, not, if◌then◌else◌, ◌&&◌, ◌||◌, List, [], ◌∷◌, ◌++◌, length, drop, codes, Option, Some, None, option_map}
 use Rattle.std.specs.List.{starts_with}
 use Rattle.std.specs.Fmt.{decimal}
@@ -51,7 +51,7 @@ axis_of [] = None
 axis_of (c ∷ []) = if c == 120 then Some X else (if c == 121 then Some Y else (if c == 122 then Some Z else None))
 axis_of (c ∷ d ∷ rest) = None
 
--- there is a first digit, and it isn't 0 where there are several
+-- there is a first digit, and it isn't 0 if there are several
 abbrev pub starts_number : List ℕ → Bool
 starts_number [] = false
 starts_number (c ∷ cs) = not (c == 48) || length cs == 0
@@ -82,7 +82,7 @@ abbrev pub id_among : List Kind → List ℕ → Option (Kind × Suffix)
 id_among [] text = None
 id_among (kind ∷ others) text = first_some (option_map (λ suffix. (kind, suffix)) (suffix_after kind text)) (id_among others text)
 
--- the ID that a text spells, where there is one
+-- the ID that a text spells, if it spells one
 abbrev pub id_of : List ℕ → Option (Kind × Suffix)
 id_of text = id_among kinds text
 

@@ -74,7 +74,7 @@ some_below mask (suc n) h = by (has mask n) refl h (some_below mask n)
     by true e h below = (n, omega arith, e)
     by false e h below = let s = below h in (s.0, omega (arith, s.1), s.2)
 
--- and one that names a channel below a number has it
+-- a mask that names a channel below a number has one
 pub has_below_at : (mask c n : ℕ) → c < n → has mask c ≡ true → has_below mask n ≡ true
 has_below_at mask c zero below here = absurd (omega arith)
 has_below_at mask c (suc n) below here = by (has mask n) refl (has_below_at mask c n)
@@ -104,7 +104,7 @@ length-elements_below value (suc n) =
     let both = length-append (elements_below value n) (value n ∷ []) in
     omega (arith, before, both)
 
--- the values before a channel, with those of one channel more
+-- the values before the next channel are those before this one and its own
 pub first_value_more : (formats : List Format) (c : ℕ) → c < length formats → first_value formats (c + 1) ≡ first_value formats c + (format_at formats c).repeat
 first_value_more formats c h = sum_by_more (λ f. f.repeat) formats c (stamp_format Little) h
 
@@ -124,7 +124,7 @@ length-values_below formats value (suc c) within =
     let both = length-append (values_below formats value c) (elements_below (value c) (format_at formats c).repeat) in
     both ∙ rw (← add-one c) (omega (arith, before, own, more))
 
--- the elements of all data channels are as many as the shape's width
+-- the number of elements of all data channels is the shape's width
 pub length-values_by : (shape : ShapeRecord) (value : ℕ → ℕ → ℤ) → length (values_by shape value) ≡ width_of shape
 length-values_by shape value =
     let count = count_is shape in
@@ -159,7 +159,7 @@ values_at_many shape values t c wide within =
     let long = length-append values (t ∷ []) in
     omega (arith, length-take (format_at formats c).repeat (drop (first_value formats c) all), length-drop (first_value formats c) all)
 
--- the bytes of a channel are as many as its size
+-- a channel has as many bytes as its size
 field_size : (shape : ShapeRecord) (values : List ℤ) (t : ℤ) (c : ℕ) → length values ≡ width_of shape → c < count_of shape
     → length (field_of shape values t c) ≡ size_at (formats_of shape) c
 field_size shape values t c wide within =
@@ -224,7 +224,7 @@ length-scan_of shape mask values t wide =
 
 -- ---- each byte
 
--- zero bytes after a list read as what is past its end
+-- zero bytes after a list read like what is past its end
 zeros_after : (bytes : List ℕ) (k j : ℕ) → get_or (bytes ++ replicate k 0) j 0 ≡ get_or bytes j 0
 zeros_after bytes k j =
     elim (cases_lt j (length bytes)) [
@@ -278,7 +278,7 @@ front_at formats mask values (suc n) c j sized within selected inside =
           rw (same, selected') (front_own (front_below formats mask values n) (end_below formats mask n) (size_at formats n) (field_at formats values n) j len)
     ]
 
--- byte j of a selected channel stands in the scan at the channel's place, and j bytes further
+-- byte j of a selected channel stands in the scan j bytes after the channel's place
 pub scan_of-at : (shape : ShapeRecord) (mask : ℕ) (values : List ℤ) (t : ℤ) (c j : ℕ) → length values ≡ width_of shape → c < count_of shape → has mask c ≡ true
     → j < size_at (formats_of shape) c → get_or (scan_of shape mask values t) (place_of shape mask c + j) 0 ≡ get_or (field_of shape values t c) j 0
 scan_of-at shape mask values t c j wide within selected inside =

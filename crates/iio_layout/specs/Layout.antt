@@ -18,12 +18,12 @@ abbrev pub end_after : Bool → ℕ → ℕ → ℕ
 end_after true end size = next_multiple_of end size + size
 end_after false end size = end
 
--- where the last selected channel before channel c ends, or 0 where there is none
+-- where the last selected channel before channel c ends, or 0 if there is none
 abbrev pub end_below : List Format → ℕ → ℕ → ℕ
 end_below formats mask zero = 0
 end_below formats mask (suc c) = end_after (has mask c) (end_below formats mask c) (size_at formats c)
 
--- the size of the largest selected channel before channel c, or 0 where there is none
+-- the size of the largest selected channel before channel c, or 0 if there is none
 abbrev pub largest_below : List Format → ℕ → ℕ → ℕ
 largest_below formats mask zero = 0
 largest_below formats mask (suc c) = max (largest_below formats mask c) (if has mask c then size_at formats c else 0)

@@ -24,7 +24,7 @@ field_at formats values c = channel_bytes (format_at formats c) (values_at forma
 abbrev pub padded : List ℕ → ℕ → List ℕ
 padded bytes size = bytes ++ replicate (next_multiple_of (length bytes) size - length bytes) 0
 
--- a channel after what stands before it: at a multiple of its size; one that isn't selected has no bytes
+-- a channel appended to what stands before it: at a multiple of its size; one that isn't selected adds no bytes
 abbrev pub with_field : Bool → List ℕ → ℕ → List ℕ → List ℕ
 with_field true front size field = padded front size ++ field
 with_field false front size field = front

@@ -11,7 +11,7 @@ use Rattle.iio_layout.specs.declared.shape.TheConstants.{MAX_CHANNELS}
 use Rattle.iio_layout.specs.Id.{id_of, same_id}
 
 -- a device's channels in the order of their numbers; the byte order of its timestamp, which is the last channel,
--- where it has one; and the masks that its sensor can be asked under, where they are listed
+-- if it has one; and the masks that its sensor can be asked under, if they are listed
 pub record ShapeRecord : Type 0 where
   pub channels : List Channel
   pub stamp : Option Endian

@@ -62,8 +62,8 @@ impl Kind {
     }
 }
 
-/// Appends the text of an ID: the word of its kind, and after it nothing, the number without leading zeros, or `_x`,
-/// `_y`, `_z`. Where memory runs out nothing is appended.
+/// Appends the text of an ID: the word of its kind, followed by nothing, the number without leading zeros, or `_x`, `_y`, `_z`.
+/// If memory runs out, nothing is appended.
 pub fn write_id(out: &mut Vec<u8>, kind: Kind, suffix: Suffix) -> Result<(), Mem>
     ensures ok { OnOk result (out.new.items ≡ out.old.items ++ id_text kind suffix) }
     ensures err { OnErr result (out.new.items ≡ out.old.items) }
@@ -94,8 +94,8 @@ fn write_suffix(out: &mut Vec<u8>, suffix: Suffix) -> Result<(), Mem>
     Ok(())
 }
 
-/// The ID that a text spells: the word of a kind, and after it nothing, a number from 0 to 65535 without leading
-/// zeros, or `_x`, `_y`, `_z`. `None` comes exactly where it spells none.
+/// The ID that a text spells: the word of a kind, followed by nothing, a number from 0 to 65535 without leading zeros, or `_x`,
+/// `_y`, `_z`. Returns `None` exactly if the text spells none.
 #[inline(always)]
 pub fn read_id(text: &[u8]) -> Option<(Kind, Suffix)>
     ensures value { result ≡ id_of text.now }
@@ -105,7 +105,7 @@ pub fn read_id(text: &[u8]) -> Option<(Kind, Suffix)>
     id_among_kinds(text)
 }
 
-// The first kind whose word the text begins with, and what stands after it.
+// The first kind whose word the text begins with, and the suffix after that word.
 fn id_among_kinds(text: &[u8]) -> Option<(Kind, Suffix)>
     ensures { result ≡ id_of text.now }
 {
@@ -125,7 +125,7 @@ fn id_among_kinds(text: &[u8]) -> Option<(Kind, Suffix)>
     None
 }
 
-// What stands after the word of a kind.
+// The suffix that follows the word of a kind.
 fn suffix_after(kind: Kind, text: &[u8]) -> Option<Suffix>
     ensures { result ≡ suffix_after kind text.now }
 {
@@ -158,7 +158,7 @@ fn read_axis(text: &[u8]) -> Option<Suffix>
     }
 }
 
-// A number without leading zeros.
+// Reads a number without leading zeros.
 fn read_number(text: &[u8]) -> Option<u16>
     ensures { result ≡ number_of text.now }
 {
@@ -177,7 +177,7 @@ fn read_number(text: &[u8]) -> Option<u16>
     Some(value)
 }
 
-// Whether there is a first digit, which isn't 0 where there are several.
+// Whether there is a first digit, which isn't 0 if there are several.
 fn starts_number(text: &[u8]) -> bool
     ensures { result ≡ starts_number text.now }
 {

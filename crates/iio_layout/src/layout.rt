@@ -11,8 +11,8 @@ use crate::Shape;
 use iio_mask::Mask;
 use iio_scan_type::MAX_CHANNEL_SIZE;
 
-/// Where channel `c` stands in a scan under the mask, in bytes: the least multiple of its size that isn't below the
-/// end of the selected channel before it (kernel, `iio_compute_scan_bytes`). The timestamp is the last channel.
+/// The place of channel `c` in a scan under the mask, in bytes: the least multiple of its size that isn't below the end of the
+/// selected channel before it (kernel, `iio_compute_scan_bytes`). The timestamp is the last channel.
 pub fn place(shape: &Shape, mask: Mask, c: u32) -> u32
     requires below { mask.bits < 2 ^ count_of shape.now }
     requires channel { c < count_of shape.now }
@@ -70,7 +70,7 @@ fn end_below(shape: &Shape, mask: Mask, c: u32) -> u32
     end
 }
 
-// Where the selected channels end, and the size of the largest of them, or 0 where there is none.
+// Where the selected channels end, and the size of the largest of them, or 0 if there is none.
 #[derive(Clone, Copy)]
 struct Extent {
     end: u32,

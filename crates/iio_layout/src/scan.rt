@@ -14,16 +14,16 @@ use crate::{Shape, Values};
 use iio_mask::Mask;
 use iio_scan_type::ScanType;
 
-/// Writes the scan under the mask of these values and this moment: each selected channel's bytes at its place, the
-/// timestamp's last, and zero bytes elsewhere, whatever was there before. `values` has the elements of all data
-/// channels in their order, also of those that aren't selected.
+/// Writes the scan of these values and this moment under the mask: each selected channel's bytes at its place, the timestamp's
+/// last, and zero bytes elsewhere, whatever was there before. `values` has the elements of all data channels in their order,
+/// including those that aren't selected.
 pub fn fill(shape: &Shape, mask: Mask, values: &[i64], t: i64, out: &mut [u8])
     requires below { mask.bits < 2 ^ count_of shape.now }
     requires width { length values.now ≡ width_of shape.now }
     requires size { length out.old ≡ scan_size shape.now mask.bits }
     ensures scan { out.new ≡ scan_of shape.now mask.bits values.now t }
 
-    // Byte j of a selected channel stands at its place, and j bytes further.
+    // Byte j of a selected channel stands j bytes after the channel's place.
     ensures bytes { (c j : ℕ) → c < count_of shape.now → has mask.bits c ≡ true → j < size_at (formats_of shape.now) c
         → slice_index out.new (place_of shape.now mask.bits c + j) ≡ slice_index (field_of shape.now values.now t c) j }
 
@@ -33,8 +33,8 @@ pub fn fill(shape: &Shape, mask: Mask, values: &[i64], t: i64, out: &mut [u8])
     fill_from(shape, mask, &Listed { shape, values }, t, out);
 }
 
-/// Writes the scan under the mask of these values and this moment, as `fill` does, from wherever the values stand. Only
-/// the selected channels' values are asked for, each once.
+/// Writes the scan of these values and this moment under the mask, as `fill` does, wherever the values stand. Only the selected
+/// channels' values are asked for, each once.
 #[inline]
 pub fn fill_from<V: Values>(shape: &Shape, mask: Mask, values: &V, t: i64, out: &mut [u8])
     requires below { mask.bits < 2 ^ count_of shape.now }
@@ -46,7 +46,7 @@ pub fn fill_from<V: Values>(shape: &Shape, mask: Mask, values: &V, t: i64, out: 
     out[end..].fill(0);
 }
 
-// Writes the selected channels, and answers where they end.
+// Writes the selected channels, and returns where they end.
 #[inline]
 fn put_channels<V: Values>(shape: &Shape, mask: Mask, values: &V, t: i64, out: &mut [u8]) -> usize
     requires below { mask.bits < 2 ^ count_of shape.now }
@@ -64,8 +64,8 @@ fn put_channels<V: Values>(shape: &Shape, mask: Mask, values: &V, t: i64, out: &
     end
 }
 
-// Writes channel `c` after those that end at `end`, with zero bytes up to its place, and answers where it ends. Nothing
-// is said of the bytes after that.
+// Writes channel `c` after those that end at `end`, with zero bytes up to its place, and returns where it ends. The bytes after
+// that are unspecified.
 #[inline]
 fn put_channel<V: Values>(
     shape: &Shape,
@@ -123,7 +123,7 @@ fn put_stamp(shape: &Shape, c: u32, t: i64, end: usize, out: &mut [u8]) -> usize
     place + size
 }
 
-// The place of a channel of that size after those that end at `end`, with zero bytes up to it.
+// Writes zero bytes from `end` up to the place of a channel of that size, and returns that place.
 #[inline]
 fn padded_place(size: usize, end: usize, out: &mut [u8]) -> usize
     requires power { IsPowerOfTwo size }
@@ -138,8 +138,8 @@ fn padded_place(size: usize, end: usize, out: &mut [u8]) -> usize
     place
 }
 
-// Writes zero bytes over the gap before a channel of that size, which is larger than the gap. Nothing is said of the bytes
-// after it: a fixed number of them is written faster than a small one.
+// Writes zero bytes over the gap before a channel of that size, which is larger than the gap. The bytes after the gap are
+// unspecified: a fixed number of bytes is written faster than a small one.
 #[inline]
 fn put_gap(size: usize, gap: usize, out: &mut [u8])
     requires gap { gap < size }
@@ -167,8 +167,7 @@ fn aligned(end: usize, size: usize) -> usize
     last - (last & mask)
 }
 
-// Writes the elements of data channel `c`, at the front of bytes of which there may be more. Nothing is said of those
-// after them.
+// Writes the elements of data channel `c` to the front of `out`, which may be longer. The bytes after them are unspecified.
 #[inline]
 fn put_values<V: Values>(ty: &ScanType, c: u32, values: &V, out: &mut [u8])
     requires channel { c < V.inputs values.now }
@@ -182,7 +181,7 @@ fn put_values<V: Values>(ty: &ScanType, c: u32, values: &V, out: &mut [u8])
     }
 }
 
-// Writes the elements of a data channel as `put_values` does. Most channels have only one.
+// Writes the elements of a data channel, like `put_values`. Most channels have only one.
 #[cold]
 fn put_several<V: Values>(ty: &ScanType, c: u32, values: &V, out: &mut [u8])
     requires channel { c < V.inputs values.now }

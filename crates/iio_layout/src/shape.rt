@@ -18,8 +18,8 @@ use std::marker::Model;
 /// The most channels of a device, with its timestamp: a mask has a bit for each.
 pub const MAX_CHANNELS: usize = 64;
 
-/// A device's channels in the order of their numbers, its timestamp, which is the last channel, and the masks that
-/// its sensor can be asked under, where they are listed.
+/// A device's channels in the order of their numbers, its timestamp, which is the last channel, and the masks that its sensor
+/// can be asked under, if they are listed.
 #[derive(Debug, Drop)]
 pub struct Shape {
     channels: Vec<Channel>,
@@ -28,7 +28,7 @@ pub struct Shape {
     // Where each channel's values begin among those of a capture, and how many there are in all.
     starts: [u16; MAX_CHANNELS],
     width: u16,
-    // Whether each channel's ID has its number: then an ID is looked for at one place alone.
+    // Whether the suffix of each channel is its place as a number: then an ID is looked for at one place alone.
     numbered: bool,
 }
 
@@ -45,9 +45,9 @@ impl Model for Shape {
 }
 
 impl Shape {
-    /// The shape of these channels. `None` comes exactly where there is no channel, where there are more than
-    /// `MAX_CHANNELS` with the timestamp, where two have the same kind, suffix and direction, or where a listed mask has
-    /// no channel, the timestamp's bit, or a bit at or above the channel count.
+    /// Makes the shape of these channels. Returns `None` exactly if there is no channel, if there are more than `MAX_CHANNELS`
+    /// with the timestamp, if two have the same kind, suffix and direction, or if a listed mask has no channel, the timestamp's
+    /// bit, or a bit at or above the channel count.
     pub fn new(channels: Vec<Channel>, stamp: Option<Endian>, listed: Vec<Mask>) -> Option<Shape>
         ensures shape { IfSome result (λ s. s ≡ record { channels = channels.items; stamp = stamp; listed = map (λ m. m.bits) listed.items }) }
         ensures sound { IfSome result (λ s. IsShape s) }
@@ -68,7 +68,7 @@ impl Shape {
         })
     }
 
-    /// How many channels there are, with the timestamp.
+    /// The number of channels, with the timestamp.
     pub fn count(&self) -> u32
         ensures value { result ≡ count_of self.now }
         ensures sound { IsShape self.now }
@@ -76,7 +76,7 @@ impl Shape {
         self.inputs() + u32::from(self.stamp.is_some())
     }
 
-    /// How many data channels there are: all but the timestamp.
+    /// The number of data channels: all but the timestamp.
     pub fn inputs(&self) -> u32
         ensures value { result ≡ length self.now.channels }
         ensures sound { IsShape self.now }
@@ -84,7 +84,7 @@ impl Shape {
         self.channels.len() as u32
     }
 
-    /// How many values a capture has without its moment: the elements of all data channels.
+    /// The number of values in a capture without its moment: the elements of all data channels.
     pub fn width(&self) -> u32
         ensures { result ≡ width_of self.now }
     {
@@ -99,7 +99,7 @@ impl Shape {
         &self.channels[c as usize]
     }
 
-    /// The type of channel `c`; of the timestamp's number, the timestamp's.
+    /// The type of channel `c`; for the timestamp's number, the type of the timestamp.
     pub fn scan_type(&self, c: u32) -> ScanType
         requires { c < count_of self.now }
         ensures value { result ≡ format_at (formats_of self.now) c }
@@ -122,14 +122,14 @@ impl Shape {
         &self.channels[c as usize].ty
     }
 
-    /// The byte order of the timestamp, where there is one.
+    /// The byte order of the timestamp, if there is one.
     pub fn stamp(&self) -> Option<Endian>
         ensures { result ≡ self.now.stamp }
     {
         self.stamp
     }
 
-    /// The number of the first channel of that ID. `None` comes exactly where the text is no ID or no channel has it.
+    /// The number of the first channel of that ID. Returns `None` exactly if the text is no ID or no channel has it.
     pub fn find(&self, id: &[u8]) -> Option<u32>
         ensures { result ≡ channel_of self.now id.now }
     {
@@ -150,7 +150,7 @@ impl Shape {
         }
     }
 
-    /// An equal shape.
+    /// Returns an equal shape.
     pub fn copy(&self, alloc: Global) -> Result<Shape, Mem>
         ensures { IfOk result (λ s. s ≡ self.now) }
     {
@@ -183,7 +183,7 @@ impl Shape {
     }
 }
 
-// Whether there is a shape of these.
+// Whether these channels, this timestamp and these masks make a shape.
 fn is_shape(channels: &[Channel], stamp: Option<Endian>, listed: &[Mask]) -> bool
     ensures { IsTrue result ↔ IsShape (record { channels = channels.now; stamp = stamp; listed = map (λ m. m.bits) listed.now }) }
 {
@@ -215,7 +215,7 @@ fn first_with(channels: &[Channel], kind: Kind, suffix: Suffix) -> Option<usize>
         .position(|channel| has_id(channel, kind, suffix))
 }
 
-// The same among channels of which each has its place for its number.
+// The place of the first channel of that ID, if the suffix of each channel is its place as a number.
 fn numbered_with(channels: &[Channel], kind: Kind, suffix: Suffix) -> Option<usize>
     requires { AreNumbered channels.now }
     ensures { result ≡ position (λ channel. same_id (id_at channel) (kind, suffix)) channels.now }
@@ -231,7 +231,7 @@ fn numbered_with(channels: &[Channel], kind: Kind, suffix: Suffix) -> Option<usi
     }
 }
 
-// Whether each has.
+// Whether the suffix of each channel is its place as a number.
 fn are_numbered(channels: &[Channel]) -> bool
     requires { length channels.now ≤ MAX_CHANNELS }
     ensures { IsTrue result ↔ AreNumbered channels.now }
@@ -244,7 +244,7 @@ fn are_numbered(channels: &[Channel]) -> bool
     true
 }
 
-// Most channels of a device are of one kind, so the suffix is looked at first.
+// Whether a channel has that ID. Most channels of a device are of one kind, so the suffix is compared first.
 fn has_id(channel: &Channel, kind: Kind, suffix: Suffix) -> bool
     ensures { result ≡ same_id (id_at channel.now) (kind, suffix) }
 {
@@ -276,7 +276,7 @@ fn is_same(a: &Channel, b: &Channel) -> bool
     a.kind == b.kind && a.suffix == b.suffix && a.direction == b.direction
 }
 
-// Whether each mask has a channel, and none at or above that number.
+// Whether each mask has a channel, and none has one at or above `inputs`.
 fn are_listable(listed: &[Mask], inputs: u32) -> bool
     requires { inputs ≤ MAX_CHANNELS }
     ensures { IsTrue result ↔ All (λ mask. (0 < mask.bits) × (mask.bits < 2 ^ inputs)) listed.now }

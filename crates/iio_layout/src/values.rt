@@ -6,8 +6,8 @@ ghost use Rattle.iio_layout.specs.Shape.{formats_of};
 
 use crate::Shape;
 
-/// The values of a capture, wherever they stand: in a slice, in a recorded row, or in what a driver reckons. A scan is
-/// filled from them channel by channel, and those of channels that nobody has selected aren't looked at.
+/// The values of a capture, wherever they stand: in a slice, in a recorded row, or in what a driver computes. A scan is filled
+/// from them channel by channel, and those of channels that aren't selected aren't looked at.
 pub trait Values {
     ghost inputs: { Self → ℕ };
 

@@ -8,7 +8,7 @@ use Rattle.std.proofs.lemmas.Nat.Bits.{bit_at-trailing_zeros}
 use Rattle.iio_mask.specs.Mask.{has, channels_of}
 use Rattle.iio_mask.proofs.PlaceLemmas.{and_one_less, has-minus}
 
--- what passes one test passes the other, of the numbers after c
+-- two tests that agree on the numbers after c keep the same ones of those
 filter_after : (p q : ℕ → Bool) (c a n : ℕ) → ((i : ℕ) → c < i → q i ≡ p i) → c < a → filter p (range_with_len a n) ≡ filter q (range_with_len a n)
 filter_after p q c a zero same after = refl
 filter_after p q c a (suc n) same after =
@@ -62,7 +62,7 @@ channels_of-first bits some fits =
 pub first_has : (bits : ℕ) → 0 < bits → bits < 2 ^ 64 → has bits (trailing_zeros w64 bits) ≡ true
 first_has bits some fits = eq-eqb (bit_at bits (trailing_zeros w64 bits)) 1 (bit_at-trailing_zeros w64 bits some fits).1
 
--- the mask without it as a word's operations make it
+-- the mask without its first channel, as a word's operations make it
 pub without_first : (bits : ℕ) → 0 < bits → bits < 2 ^ 64 → bit_and bits (bits - 1) ≡ bits - 2 ^ trailing_zeros w64 bits
 without_first bits some fits =
     let lowest = bit_at-trailing_zeros w64 bits some fits in

@@ -7,7 +7,7 @@ use Rattle.std.proofs.lemmas.Nat.{pow_pos}
 use Rattle.std.proofs.Math.Nat.{mul_comm}
 use Rattle.iio_mask.specs.Mask.{has, is_within, without_channel}
 
--- the greater of two bits is 1 where one of them is
+-- the greater of two bits is 1 exactly if one of them is
 max_is_one : (x y : ℕ) → x < 2 → y < 2 → (max x y == 1) ≡ (x == 1 || y == 1)
 max_is_one zero zero hx hy = refl
 max_is_one zero (suc zero) hx hy = refl
@@ -57,7 +57,7 @@ is_within-from a b each =
 
 -- ---- a mask without one of its channels
 
--- the bits above the lowest one of an odd number and of the even one below it are the same
+-- an odd number and the even one below it have the same bits above the lowest one
 odd_bits : (a j : ℕ) → 0 < j → bit_at (2 * a) j ≡ bit_at (2 * a + 1) j
 odd_bits a zero h = absurd (omega arith)
 odd_bits a (suc j) h =
@@ -68,7 +68,7 @@ odd_bits a (suc j) h =
 split_at_bit : (n c : ℕ) → n ≡ n / 2 ^ c * 2 ^ c + n % 2 ^ c
 split_at_bit n c = let p = pow_pos c in omega (arith, mul_comm (n / 2 ^ c) (2 ^ c))
 
--- the same where bit c is 1, and the number without that bit
+-- a number whose bit c is 1, without that bit
 minus_bit : (n p q r a : ℕ) → n ≡ q * p + r → q ≡ 2 * a + 1 → n - p ≡ 2 * a * p + r
 minus_bit n p q r a whole odd = rw (whole, odd) (omega arith)
 
@@ -146,7 +146,7 @@ one_less n q p some is = omega arith
 none_left : (n q p : ℕ) → n ≡ q + p → n - p ≡ q + 0
 none_left n q p is = omega arith
 
--- what is above the lowest one bit c, and that bit
+-- a number is what is above its lowest one bit c, and that bit
 lowest_parts : (n c : ℕ) → bit_at n c ≡ 1 → ((i : ℕ) → i < c → bit_at n i ≡ 0) → n ≡ n / 2 ^ suc c * 2 ^ suc c + 2 ^ c
 lowest_parts n c one none =
     let above = pow_pos (suc c) in
@@ -160,7 +160,7 @@ lowest_parts n c one none =
     ])) in
     whole ∙ ap (λ r. n / 2 ^ suc c * 2 ^ suc c + r) low
 
--- a number and the one below it have the same bits, but for those up to the lowest one
+-- a number and the one below it have the same bits, except for those up to the lowest one bit
 pub and_one_less : (n c : ℕ) → bit_at n c ≡ 1 → ((i : ℕ) → i < c → bit_at n i ≡ 0) → bit_and n (n - 1) ≡ n - 2 ^ c
 and_one_less n c one none =
     same_from_bits (bit_and n (n - 1)) (n - 2 ^ c) (λ i. bit_at_and n (n - 1) i ∙ (elim (cases_lt i (suc c)) [

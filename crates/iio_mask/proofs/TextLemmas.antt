@@ -94,7 +94,7 @@ from_bytes_of channels n few below =
     (λ one. from_be_bytes-to_be_bytes_4 n (let fits = pow_mono (leb-true channels 32 one) in omega arith))
     (λ two. from_be_bytes-to_be_bytes_8 n (let fits = pow_mono few in omega arith))
 
--- the number of as many bytes gives them back
+-- the number of that many bytes gives them back
 bytes_of_from : (channels : ℕ) (bytes : List ℕ) → length bytes ≡ byte_len (mask_width channels) → ((i : ℕ) → get_or bytes i 0 < 256)
     → to_be_bytes (mask_width channels) (from_be_bytes (mask_width channels) bytes) ≡ bytes
 bytes_of_from channels bytes =
@@ -162,7 +162,7 @@ lower_is_glyph c d h = (grind (arith, nat_tests), grind (arith, nat_tests))
 lower_is_digit : (c d : ℕ) → hex_digit_value c ≡ Some d → (to_ascii_lowercase c ≡ slice_index lower_digits d) × (d < 16)
 lower_is_digit c d h = let is = lower_is_glyph c d h in (is.0 ∙ sym (digit_is_glyph d is.1), is.1)
 
--- what is read, spelled in lower case, and how much it is
+-- what is read, spelled in lower case, and the length of its text
 pub record Spells (text bytes : List ℕ) : Type 0 where
   pub lower : str_to_ascii_lowercase text ≡ digits_of bytes
   pub small : (i : ℕ) → get_or bytes i 0 < 256

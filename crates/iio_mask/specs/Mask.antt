@@ -1,4 +1,4 @@
--- A scan mask as the set of the places of its one bits: channel c is in the mask where bit c is 1. (Kernel:
+-- A scan mask as the set of the places of its one bits: channel c is in the mask if bit c is 1. (Kernel:
 -- driver-api/iio, `active_scan_mask`.)
 use Rattle.std.specs.Prelude.{ℕ, ◌-◌, ◌^◌, ◌==◌, Bool, if◌then◌else◌, List, [], ◌∷◌, Option, Some, filter, find, bit_and, bit_or}
 use Rattle.std.specs.Int.{bit_at}
@@ -33,8 +33,8 @@ channels_below bits n = filter (λ c. has bits c) (range_with_len 0 n)
 unfoldable pub channels_of : ℕ → List ℕ
 channels_of bits = channels_below bits 64
 
--- the mask that is asked for where a device lists its masks: the first that contains what is wanted; where none
--- are listed, what is wanted itself (kernel: `iio_scan_mask_match`)
+-- the mask that is asked for if a device lists its masks: the first that contains what is wanted; if none are listed, what is
+-- wanted itself (kernel: `iio_scan_mask_match`)
 abbrev pub matching_mask : List ℕ → ℕ → Option ℕ
 matching_mask [] wanted = Some wanted
 matching_mask (m ∷ ms) wanted = find (λ bits. is_within wanted bits) (m ∷ ms)

@@ -9,7 +9,7 @@ ghost use Rattle.iio_mask.specs.Text.{digit_count, mask_of, mask_text, number_of
 pub use iio_base::Mem;
 use std::alloc::Global;
 
-/// A set of channels: channel c is in it where bit c is 1.
+/// A set of channels: channel c is in it exactly if bit c is 1.
 #[derive(Clone, Copy, Debug, PartialEq, Eq, Hash)]
 pub struct Mask {
     pub bits: u64,
@@ -17,7 +17,7 @@ pub struct Mask {
 
 impl Mask {
     /// Reads the text of a mask for `channels` channels: 8 hexadecimal digits of either case for each 32 channels, the most
-    /// significant word first. `None` for another length, another byte, or a bit at or above `channels`.
+    /// significant word first. Returns `None` for another length, another byte, or a bit at or above `channels`.
     pub fn read(text: &[u8], channels: u32) -> Option<Mask>
         requires some { 1 ≤ channels }
         requires few { channels ≤ 64 }
@@ -44,8 +44,8 @@ impl Mask {
         }
     }
 
-    /// The text of the mask in place, without memory: its first 8 bytes, or 16 for more than 32 channels, are what
-    /// `print` gives, and the rest are 0.
+    /// The text of the mask in place, without memory: the first 8 bytes, or 16 for more than 32 channels, are what `print`
+    /// gives, and the rest are 0.
     pub fn digits(self, channels: u32) -> [u8; 16]
         requires some { 1 ≤ channels }
         requires few { channels ≤ 64 }
@@ -74,7 +74,7 @@ impl Mask {
         }
     }
 
-    /// Takes the first channel out of the mask. `None` comes exactly where there is none.
+    /// Takes the first channel out of the mask. Returns `None` exactly if there is none.
     #[inline]
     pub fn pop_first(&mut self) -> Option<u32>
         ensures some { IfSome result (λ c. channels_of self.old.bits ≡ c ∷ channels_of self.new.bits) }
@@ -90,7 +90,7 @@ impl Mask {
         Some(first)
     }
 
-    /// Whether channel c is in the mask; none from 64 on is.
+    /// Whether channel c is in the mask; no channel from 64 on is.
     #[inline]
     pub fn contains(self, c: u32) -> bool
         ensures { result ≡ has self.bits c }
@@ -117,8 +117,8 @@ impl Mask {
     }
 }
 
-/// The mask to ask for where these masks are listed: the first that contains all that is wanted. Where none are
-/// listed, it is what is wanted; `None` exactly where masks are listed and none of them contains it.
+/// The mask to ask for if these masks are listed: the first that contains all that is wanted, or what is wanted itself if none
+/// are listed. Returns `None` exactly if masks are listed and none of them contains it.
 pub fn pick(listed: &[Mask], wanted: Mask) -> Option<Mask>
     ensures { option_map (λ m. m.bits) result ≡ matching_mask (map (λ m. m.bits) listed.now) wanted.bits }
 {
@@ -128,17 +128,17 @@ pub fn pick(listed: &[Mask], wanted: Mask) -> Option<Mask>
     listed.iter().find(|m| wanted.within(**m)).copied()
 }
 
-/// What holds of the union of any masks, for contracts that speak of several. It does nothing.
+/// The laws of unions of masks, for contracts that speak of several masks. The call does nothing.
 pub fn union_laws()
-    // One mask more, wherever it stands among them, adds its channels.
+    // Another mask, wherever it stands among them, adds its channels.
     ensures one_more { (before after : List ℕ) (mask : ℕ) →
         union_of_all (before ++ mask ∷ after) ≡ union_of mask (union_of_all (before ++ after)) }
-    // One mask less leaves a union within the one before.
+    // Without one of the masks the union lies within the union before.
     ensures one_less { (before after : List ℕ) (mask : ℕ) →
         is_within (union_of_all (before ++ after)) (union_of_all (before ++ mask ∷ after)) ≡ true }
     // Each of the masks lies within their union.
     ensures member { (masks : List ℕ) (mask : ℕ) → Contains masks mask → is_within mask (union_of_all masks) ≡ true }
-    // A channel is in the union exactly where it is in one of the masks.
+    // A channel is in the union exactly if it is in one of the masks.
     ensures places { (masks : List ℕ) (c : ℕ) → has (union_of_all masks) c ≡ list_any (λ mask. has mask c) masks }
     // Masks with the same channels are the same.
     ensures same { (mask other : ℕ) → ((c : ℕ) → has mask c ≡ has other c) → mask ≡ other }
@@ -167,7 +167,7 @@ fn mask_number(text: &[u8], channels: u32) -> Option<u64>
     fits(bits, channels).then_some(bits)
 }
 
-// The number that the digits spell, where there are as many as the channels want.
+// The number that the digits spell, if there are as many as the channels require.
 fn read_number(text: &[u8], channels: u32) -> Option<u64>
     ensures { result ≡ number_of text.now channels }
 {
@@ -182,7 +182,7 @@ fn read_number(text: &[u8], channels: u32) -> Option<u64>
     }
 }
 
-// Reads pairs of digits into bytes, where there is exactly one for each byte of `out`.
+// Reads pairs of digits into bytes, if there is exactly one pair for each byte of `out`.
 fn read_bytes(text: &[u8], out: &mut [u8]) -> Option<()>
     ensures { MatchOption (sized_bytes text.now (length out.old)) (result ≡ None) (λ bytes. (result ≡ Some tt) × (out.new ≡ bytes)) }
 {

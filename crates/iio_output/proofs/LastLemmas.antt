@@ -9,7 +9,7 @@ use Rattle.iio_layout.specs.Shape.{ShapeRecord}
 use Rattle.iio_output.specs.View.{IsPlace}
 use Rattle.iio_output.specs.Last.{GivenScan, element_in, last_from}
 
--- one value more is kept, at channel c: what stands before it and at it is kept, and what stands after it stays
+-- another value is kept, at channel c: what stands before it and at it is kept, and what stands after it stays
 pub kept_more : (shape : ShapeRecord) (x : GivenScan) (c : ℕ) (values values' kept : List ℤ) (d : ℤ) → c < length values
     → take (c + 1) values' ≡ take c values ++ (if has x.mask c then element_in shape x c else slice_index_or values c d) ∷ []
     → drop (c + 1) values' ≡ drop (c + 1) values → take c values ++ last_from shape x c (drop c values) ≡ kept
@@ -25,7 +25,7 @@ kept_more shape x c values values' kept d less front back before =
     ∙ ap (λ (vs : List ℤ). take c values ++ vs) (sym first)
     ∙ before
 
--- one place more is written, at channel c
+-- another place is written, at channel c
 pub places_more : (shape : ShapeRecord) (mask c place : ℕ) (places : List ℕ) → c < length places → IsPlace shape mask c place
     → ((k : ℕ) → k < c → has mask k ≡ true → IsPlace shape mask k (slice_index places k))
     → (k : ℕ) → k < c + 1 → has mask k ≡ true → IsPlace shape mask k (slice_index (set places c place) k)
@@ -39,7 +39,7 @@ places_more shape mask c place places less own below k within selected = by (cas
         let there : slice_index (set places c place) k ≡ slice_index places k = get_or-set_other places c k place 0 other in
         rw there (below k (omega (arith, within, other)) selected)
 
--- ... and none is written at a channel that isn't selected
+-- no place is written at a channel that isn't selected
 pub places_same : (shape : ShapeRecord) (mask c : ℕ) (places : List ℕ) → has mask c ≡ false
     → ((k : ℕ) → k < c → has mask k ≡ true → IsPlace shape mask k (slice_index places k))
     → (k : ℕ) → k < c + 1 → has mask k ≡ true → IsPlace shape mask k (slice_index places k)

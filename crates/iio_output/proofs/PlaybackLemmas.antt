@@ -143,7 +143,7 @@ next_place g n i is less more = suc-mod g n ∙ ap (λ (k : ℕ). suc k % n) is 
 last_place : (g n i : ℕ) → g % n ≡ i → suc i ≡ n → suc g % n ≡ 0
 last_place g n i is end = suc-mod g n ∙ ap (λ (k : ℕ). suc k % n) is ∙ ap (λ (k : ℕ). k % n) end ∙ mod_self n
 
--- one turn further
+-- a cycle turned by another scan
 turn : (xs : List (List ℕ)) (g i : ℕ) (x : List ℕ) (rest : List (List ℕ)) → g % length xs ≡ i → i < length xs → drop i xs ≡ x ∷ rest
     → (rest ++ take i xs) ++ x ∷ [] ≡ turned (suc g % length xs) xs
 turn xs g i x rest is less here =
@@ -238,7 +238,7 @@ first_given true w = by_scans w.written
 
 -- ---- a writer that plays
 
--- of the writer of a device, whose membership was x, a payload is taken as that membership says
+-- the writer of a device with the membership x takes of a payload what that membership says
 pub plays_written : (w : WriterRecord) (underruns : ℕ) (bytes : List ℕ) (x : Outgoing) → IsPlaying w underruns x
     → IsPlaying (after_write w bytes) underruns (after_payload (Some w) bytes x)
 plays_written w underruns bytes x plays = by (first_refusal (write_faults w bytes)) refl
@@ -266,12 +266,12 @@ plays_written w underruns bytes x plays = by (first_refusal (write_faults w byte
           written = goes.1;
         })
 
--- what is given is the first scan, where there is one
+-- what is given is the first scan, if there is one
 gives_first : (xs : List (List ℕ)) (o : Option (List ℕ)) (room : List ℕ) → slice_get xs 0 ≡ o → GivesAt o (next_answer xs) room (room_after xs room)
 gives_first [] o room is = subst (λ (p : Option (List ℕ)). GivesAt p Underrun room room) is (refl, refl)
 gives_first (y ∷ ys) o room is = subst (λ (p : Option (List ℕ)). GivesAt p Given room y) is (refl, refl)
 
--- ... and an entry gives what it says
+-- an entry gives what the membership says
 pub plays_given : (w : WriterRecord) (o : OutRecord) (room : List ℕ) (x : Outgoing) → IsPlaying w o.underruns x
     → GivesAt (given_at w.cyclic x) (next_answer w.scans) room (room_after w.scans room) × Plays (after_entry (given_at w.cyclic x) x) (with_given w o)
 plays_given w o room x plays =
@@ -286,7 +286,7 @@ plays_given w o room x plays =
       },
     )
 
--- the same, of what the device makes of it: it is given what waits, and then the entry is counted
+-- the same for the device: it is given what waits, and then the entry is counted
 pub plays_next : (o mid after : OutRecord) (answer : Next) (room room' : List ℕ) → IfSome o.writer (λ w. answer ≡ next_answer w.scans)
     → IfSome o.writer (λ w. room' ≡ room_after w.scans room) → IfSome o.writer (λ w. mid ≡ after_giving w o)
     → after ≡ record mid { underruns = underruns_with answer mid.underruns }

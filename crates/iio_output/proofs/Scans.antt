@@ -13,7 +13,7 @@ pub length-scans_in : (n size : ℕ) (bytes : List ℕ) → length (scans_in n s
 length-scans_in zero size bytes = refl
 length-scans_in (suc n) size bytes = ap suc (length-scans_in n size (drop size bytes))
 
--- bytes after them don't count
+-- bytes after the scans don't count
 scans_in-front : (n size : ℕ) (bytes rest : List ℕ) → n * size ≤ length bytes → scans_in n size (bytes ++ rest) ≡ scans_in n size bytes
 scans_in-front zero size bytes rest long = refl
 scans_in-front (suc n) size bytes rest long =
@@ -23,7 +23,7 @@ scans_in-front (suc n) size bytes rest long =
     ∙ ap (λ xs. take size bytes ∷ scans_in n size xs) (drop-append-le size bytes rest more)
     ∙ ap (λ xs. take size bytes ∷ xs) (scans_in-front n size (drop size bytes) rest fewer)
 
--- those of two runs of bytes, of which the first is whole scans
+-- the scans of two runs of bytes, the first of which is whole scans
 scans_in-append : (m n size : ℕ) (xs ys : List ℕ) → length xs ≡ m * size → scans_in (m + n) size (xs ++ ys) ≡ scans_in m size xs ++ scans_in n size ys
 scans_in-append zero n size xs ys whole =
     let none = nil_from_length xs (omega (arith, whole)) in
@@ -54,7 +54,7 @@ counts_of size n k some is = ap (λ m. m / size) is ∙ mul-div_cancel k some
 pub length-scans_of : (size : ℕ) (bytes : List ℕ) → length (scans_of size bytes) ≡ length bytes / size
 length-scans_of size bytes = length-scans_in (length bytes / size) size bytes
 
--- two runs of whole scans
+-- the scans of two runs of whole scans
 pub scans_of-append : (size : ℕ) (xs ys : List ℕ) → 1 ≤ size → length xs % size ≡ 0 → length ys % size ≡ 0
     → scans_of size (xs ++ ys) ≡ scans_of size xs ++ scans_of size ys
 scans_of-append size xs ys some whole whole' =
@@ -80,7 +80,7 @@ one_scan size scan some is =
 pub turned : (a b k : ℕ) → (a - b) * k ≡ a * k - b * k
 turned a b k = mul_comm (a - b) k ∙ mul-sub k a b ∙ ap (λ x. x - k * b) (mul_comm k a) ∙ ap (λ x. a * k - x) (mul_comm k b)
 
--- the first of them, and then the others
+-- the first scan, and then the others
 pub first_scan : (size : ℕ) (bytes : List ℕ) → 1 ≤ size → length bytes % size ≡ 0 → (length bytes == 0) ≡ false
     → (scans_of size bytes ≡ take size bytes ∷ scans_of size (drop size bytes)) × (size ≤ length bytes) × (length (drop size bytes) % size ≡ 0)
 first_scan size bytes some whole any =
@@ -103,7 +103,7 @@ first_scan size bytes some whole any =
     at_least zero size k is more = absurd (omega (arith, is, more))
     at_least (suc n) size k is more = omega (arith, is)
 
--- whether there is none, by how many there are
+-- whether there is no scan, by the number of scans
 none_by_length : (xs : List (List ℕ)) → is_none_left xs ≡ (length xs == 0)
 none_by_length [] = refl
 none_by_length (x ∷ xs) = let more : 0 < suc (length xs) = omega arith in grind (arith, nat_tests)
@@ -131,7 +131,7 @@ none_left size bytes some whole = by (length bytes == 0) refl
         ap (λ bs. is_none_left (scans_of size bs)) none ∙ ap is_none_left (scans_of-none size some)
     by false is = ap is_none_left (first_scan size bytes some whole is).0
 
--- the first few of them stand in the first bytes
+-- the first few scans stand in the first bytes
 pub take-scans_of : (most size : ℕ) (bytes : List ℕ) → 1 ≤ size → length bytes % size ≡ 0
     → take most (scans_of size bytes) ≡ scans_of size (take (min (length bytes) (most * size)) bytes)
 take-scans_of most size bytes some whole = by (cases_lt most n)
@@ -142,7 +142,7 @@ take-scans_of most size bytes some whole = by (cases_lt most n)
     is : length bytes ≡ n * size
     is = whole_is size (length bytes) whole
 
-    -- all of them
+    -- the first scans are all of them
     by_all : n ≤ most → take most (scans_of size bytes) ≡ scans_of size (take (min (length bytes) (most * size)) bytes)
     by_all few =
         let long : n * size ≤ most * size = mul-le-mul_right size few in
@@ -151,7 +151,7 @@ take-scans_of most size bytes some whole = by (cases_lt most n)
         ∙ ap (λ bs. scans_of size bs) (sym (take_all (length bytes) bytes (omega arith)))
         ∙ ap (λ k. scans_of size (take k bytes)) (sym count)
 
-    -- or the first ones, and then the others
+    -- the first scans, and then the others
     by_first : most ≤ n → take most (scans_of size bytes) ≡ scans_of size (take (min (length bytes) (most * size)) bytes)
     by_first more =
         let short : most * size ≤ n * size = mul-le-mul_right size more in

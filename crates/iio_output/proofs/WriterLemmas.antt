@@ -19,7 +19,7 @@ writer_of mask size capacity cyclic bytes = record { mask = mask; size = size; c
 
 -- ---- refusals
 
--- a full queue of bytes is one of as many scans as the capacity
+-- a queue of bytes is full exactly if it holds as many scans as the capacity
 pub full_is : (size capacity room : ℕ) (bytes : List ℕ) → AreWhole size capacity room bytes
     → (length bytes == room) ≡ not (nat_lt (length (scans_of size bytes)) capacity)
 full_is size capacity room bytes whole =
@@ -60,7 +60,7 @@ full_for size capacity room bytes payload whole long =
 
 -- ---- writing
 
--- of refusals none applies, where the first that applies is none
+-- if the first refusal that applies is none, no refusal applies
 pub none_applies : (a b c : Bool) (x y z : Wrote) → first_refusal ((a, x) ∷ (b, y) ∷ (c, z) ∷ []) ≡ None → (a ≡ false) × (b ≡ false) × (c ≡ false)
 none_applies true b c x y z h = cc
 none_applies false true c x y z h = cc
@@ -80,7 +80,7 @@ room_left size capacity room bytes whole =
     ∙ sym (turned capacity (length bytes / size) size)
     ∙ ap (λ n. (capacity - n) * size) (sym (length-scans_of size bytes))
 
--- the same, of a writer that doesn't refuse the payload
+-- the room that is left, in bytes, at a writer that doesn't refuse the payload
 room_is : (size capacity room : ℕ) (cyclic : Bool) (bytes payload : List ℕ) → AreWhole size capacity room bytes
     → is_standing cyclic (scans_of size bytes) ≡ false
     → room - length bytes ≡ room_of cyclic capacity (scans_of size bytes) * size
@@ -94,7 +94,7 @@ room_is size capacity room true bytes payload whole standing = by (scans_of size
         all = let e : capacity - 0 ≡ capacity = omega arith in ap (λ n. n * size) e
     by (x ∷ xs) is none = cc
 
--- a payload that isn't refused is written: what was taken of it, and the bytes then
+-- a payload that isn't refused is written: what was taken of it, and the bytes afterwards
 pub record Written (mask size capacity room : ℕ) (cyclic : Bool) (bytes payload : List ℕ) (taken : ℕ) : Type 0 where
   pub answer : Bytes taken ≡ write_answer (writer_of mask size capacity cyclic bytes) payload
   pub writer : writer_of mask size capacity cyclic (bytes ++ take taken payload) ≡ after_write (writer_of mask size capacity cyclic bytes) payload
@@ -174,7 +174,8 @@ written mask size capacity room cyclic bytes payload taken whole unrefused is = 
 
 -- ---- giving
 
--- what a writer with bytes gives: the first scan, of its first bytes; and the bytes that are left of a cyclic writer and of another
+-- what a writer with bytes gives: the first scan, which is its first bytes; and the bytes that are left of a cyclic writer and
+-- of another one
 pub record Gave (mask size capacity room : ℕ) (bytes : List ℕ) : Type 0 where
   pub answer : Given ≡ next_answer (scans_of size bytes)
   pub scan : (out : List ℕ) → take size bytes ≡ room_after (scans_of size bytes) out

@@ -1,4 +1,4 @@
--- An output device as callers see it, and what each call makes of it. (This project's own; what a full and a cyclic writer
+-- An output device as callers see it, and how each call changes it. (This project's own; what a full and a cyclic writer
 -- answer is after the kernel's output buffers, driver-api/iio.)
 use Rattle.std.specs.Prelude.{◌≡◌, ℕ, ◌*◌, ◌+◌, ◌-◌, ◌^◌, min, Bool, true, false, ⊤, List, [], ◌∷◌, ◌++◌, length, is_some, unwrap_or, Option, Some, None, Result, Ok, Err, if◌then◌else◌, ℤ}
 use Rattle.iio_base.specs.Refusals.{first_refusal}
@@ -22,8 +22,8 @@ pub record WriterRecord : Type 0 where
   pub cyclic : Bool
   pub scans : List (List ℕ)
 
--- an output device: its channels, element 0 of each in the last scan that it was given of it, how often none waited since
--- the writer's start, and its writer
+-- an output device: its channels, element 0 of each in the last scan with that channel that it was given, how often none waited
+-- since the writer's start, and its writer
 pub record OutRecord : Type 0 where
   pub shape : ShapeRecord
   pub last : List ℤ
@@ -44,7 +44,7 @@ new_writer mask size capacity cyclic = record { mask = mask; size = size; capaci
 abbrev pub with_writer : (mask capacity : ℕ) → Bool → OutRecord → OutRecord
 with_writer mask capacity cyclic o = record o { underruns = 0; writer = Some (new_writer mask (scan_size o.shape mask) capacity cyclic) }
 
--- a start is refused exactly where there is a writer, want of memory apart
+-- a start is refused exactly if there is a writer, apart from lack of memory
 abbrev pub IsStartFault : OutFault → OutRecord → Type 0
 IsStartFault Busy o = is_some o.writer ≡ true
 IsStartFault Mem o = is_some o.writer ≡ false
@@ -59,7 +59,7 @@ without_writer o = record o { writer = None }
 
 -- ---- writing
 
--- why nothing of a payload is taken, in this order
+-- why nothing of a payload is taken, in the order of the checks
 abbrev pub write_faults : WriterRecord → List ℕ → List (Bool × Wrote)
 write_faults w bytes =
     (is_bad_size w.cyclic w.capacity w.size (length bytes), BadSize)
@@ -67,7 +67,7 @@ write_faults w bytes =
     ∷ (is_full w.cyclic w.capacity w.scans (scans_of w.size bytes), Full)
     ∷ []
 
--- the scans of a payload that are taken where nothing is refused: the first ones that fit
+-- the scans of a payload that are taken if nothing is refused: the first ones that fit
 abbrev pub taken_by : WriterRecord → List ℕ → List (List ℕ)
 taken_by w bytes = taken_of w.cyclic w.capacity w.scans (scans_of w.size bytes)
 
@@ -75,7 +75,7 @@ taken_by w bytes = taken_of w.cyclic w.capacity w.scans (scans_of w.size bytes)
 abbrev pub write_answer : WriterRecord → List ℕ → Wrote
 write_answer w bytes = unwrap_or (first_refusal (write_faults w bytes)) (Bytes (w.size * length (taken_by w bytes)))
 
--- the scans of a payload that are taken: none where it is refused
+-- the scans of a payload that are taken: none if it is refused
 abbrev pub accepted_of : WriterRecord → List ℕ → List (List ℕ)
 accepted_of w bytes = if is_some (first_refusal (write_faults w bytes)) then [] else taken_by w bytes
 
@@ -85,7 +85,7 @@ after_write w bytes = record w { scans = w.scans ++ accepted_of w bytes }
 
 -- ---- giving
 
--- what is given, and what the room for it then has: the first scan that waits, or what stood there
+-- what is given, and what the room for it has then: the first scan that waits, or what was there
 abbrev pub next_answer : List (List ℕ) → Next
 next_answer [] = Underrun
 next_answer (x ∷ xs) = Given
@@ -112,6 +112,6 @@ abbrev pub underruns_with : Next → ℕ → ℕ
 underruns_with Given n = n
 underruns_with Underrun n = min (n + 1) (2 ^ 64 - 1)
 
--- both: what is given, and the underrun where none waits
+-- the device after an entry: what is given, and the underrun if none waits
 abbrev pub with_given : WriterRecord → OutRecord → OutRecord
 with_given w o = record (after_giving w o) { underruns = underruns_after w.scans o.underruns }

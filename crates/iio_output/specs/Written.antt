@@ -16,7 +16,7 @@ scans_in (suc n) size bytes = take size bytes ∷ scans_in n size (drop size byt
 abbrev pub scans_of : (size : ℕ) → List ℕ → List (List ℕ)
 scans_of size bytes = scans_in (length bytes / size) size bytes
 
--- whether it isn't whole scans, or, for a cyclic writer, not as many as can be its cycle
+-- whether a payload isn't whole scans, or, for a cyclic writer, not a number of scans that can be its cycle
 abbrev pub is_bad_size : (cyclic : Bool) → (capacity size bytes : ℕ) → Bool
 is_bad_size cyclic capacity size bytes = not (bytes % size == 0) || cyclic && (bytes == 0 || nat_lt capacity (bytes / size))
 
@@ -26,11 +26,11 @@ is_bad_size cyclic capacity size bytes = not (bytes % size == 0) || cyclic && (b
 abbrev pub is_standing : (cyclic : Bool) → List (List ℕ) → Bool
 is_standing cyclic waiting = cyclic && not (is_none_left waiting)
 
--- whether another one has no room for what it offers
+-- whether a writer that isn't cyclic has no room for what it is offered
 abbrev pub is_full : (cyclic : Bool) → (capacity : ℕ) → (waiting scans : List (List ℕ)) → Bool
 is_full cyclic capacity waiting scans = not cyclic && not (is_none_left scans) && not (nat_lt (length waiting) capacity)
 
--- for how many scans there is room: a cyclic writer writes once
+-- the number of scans for which there is room: a cyclic writer writes once
 abbrev pub room_of : (cyclic : Bool) → (capacity : ℕ) → List (List ℕ) → ℕ
 room_of true capacity [] = capacity
 room_of true capacity (x ∷ xs) = 0
@@ -42,12 +42,12 @@ taken_of cyclic capacity waiting scans = take (room_of cyclic capacity waiting) 
 
 -- ---- giving
 
--- the scans that wait after the device was given the first one; a cyclic writer's come round again
+-- the scans that wait after the device was given the first one; a cyclic writer's first one waits again, after the others
 abbrev pub after_given : (cyclic : Bool) → List (List ℕ) → List (List ℕ)
 after_given cyclic [] = []
 after_given cyclic (x ∷ xs) = if cyclic then xs ++ x ∷ [] else xs
 
--- how often none waited, once it was given or none waited
+-- the count of underruns after an entry, by the scans that waited before it
 abbrev pub underruns_after : List (List ℕ) → ℕ → ℕ
 underruns_after [] n = min (n + 1) (2 ^ 64 - 1)
 underruns_after (x ∷ xs) n = n

@@ -1,4 +1,4 @@
-//! What an output device was given last of each channel.
+//! What an output device was last given of each channel.
 
 ghost use Rattle.std.specs.Prelude.{◌≡◌, ℕ, ◌^◌, ◌<◌, ◌+◌, ◌≤◌, length, take, drop, true, Some, slice_index, slice_index_or, pos};
 ghost use Rattle.iio_mask.specs.Mask.{has};
@@ -12,7 +12,7 @@ ghost use Rattle.iio_output.specs.View.{ArePlaces, IsPlace};
 use iio_layout::{MAX_CHANNELS, Shape, place};
 use iio_mask::Mask;
 
-// Where the data channels that the mask selects stand in a scan.
+// The places, in a scan, of the data channels that the mask selects.
 pub(crate) fn places_of(shape: &Shape, mask: Mask) -> [u32; MAX_CHANNELS]
     requires { mask.bits < 2 ^ count_of shape.now }
     ensures { ArePlaces shape.now mask.bits result }
@@ -26,7 +26,7 @@ pub(crate) fn places_of(shape: &Shape, mask: Mask) -> [u32; MAX_CHANNELS]
     places
 }
 
-// The value of element 0 of data channel `c`, which stands there in a scan.
+// The value of element 0 of data channel `c`, which stands at `place` in a scan.
 fn element_at(shape: &Shape, c: u32, place: u32, scan: &[u8]) -> i64
     requires channel { c < length shape.now.channels }
     requires within { place + size_of (format_at (formats_of shape.now) c) ≤ length scan.now }

@@ -22,11 +22,11 @@ use std::marker::Model;
 pub enum OutFault {
     /// There is a writer already.
     Busy,
-    /// Want of memory.
+    /// Memory ran out.
     Mem,
 }
 
-/// An output device: its channels, what it was given last of each, and its writer, where it has one.
+/// An output device: its channels, what it was last given of each, and its writer, if it has one.
 #[derive(Drop)]
 pub struct Out {
     alloc: Global,
@@ -53,7 +53,7 @@ impl Model for Out {
 }
 
 impl Out {
-    /// An output device of that shape, without a writer; it was given nothing.
+    /// Makes an output device of that shape, without a writer; it was given nothing.
     pub fn new(alloc: Global, shape: Shape) -> Result<Out, Mem>
         ensures { IfOk result (λ o. o ≡ new_output shape) }
     {
@@ -75,7 +75,7 @@ impl Out {
         &self.shape
     }
 
-    /// The mask of its writer's scans. `None` comes exactly where it has no writer.
+    /// The mask of the writer's scans. Returns `None` exactly if the device has no writer.
     pub fn mask(&self) -> Option<Mask>
         ensures mask { option_map (λ m. m.bits) result ≡ option_map (λ (w : WriterRecord). w.mask) self.now.writer }
         ensures below { IfSome self.now.writer (λ w. w.mask < 2 ^ count_of self.now.shape) }
@@ -87,14 +87,14 @@ impl Out {
         }
     }
 
-    /// How often no scan waited since the last start. It stays at 2^64 - 1 when it gets there.
+    /// How often no scan waited since the last start. The count stays at 2^64 - 1 once it gets there.
     pub fn underruns(&self) -> u64
         ensures { result ≡ self.now.underruns }
     {
         self.underruns
     }
 
-    /// How many scans wait: those written and not given; for a cyclic writer those of its cycle; without a writer 0.
+    /// The number of scans that wait: those written and not given; for a cyclic writer those of its cycle; without a writer 0.
     pub fn waiting(&self) -> u32
         ensures count { result ≡ option_map_or (λ (w : WriterRecord). length w.scans) self.now.writer 0 }
         ensures playback { (x : Outgoing) → Plays x self.now → IfSome self.now.writer (λ w. result ≡ waiting_of w.cyclic x) }
@@ -105,7 +105,7 @@ impl Out {
         }
     }
 
-    /// Element 0 of data channel `c` in the last scan that the device was given that has it, whichever writer wrote it; 0
+    /// Element 0 of data channel `c` in the last scan with that channel that the device was given, whichever writer wrote it; 0
     /// before the first.
     pub fn last(&self, c: u32) -> i64
         requires { c < length self.now.shape.channels }
@@ -115,8 +115,8 @@ impl Out {
     }
 
     /// Starts a writer of scans under the mask, of which at most `capacity` wait; a cyclic one writes its cycle once. Underruns
-    /// are counted from 0 again. `Busy` comes exactly where there is a writer. Where it is refused nothing changes. The scans
-    /// that may wait have at most 4,194,304 bytes. All memory that the writer ever takes is taken here.
+    /// are counted from 0 again. Returns `Busy` exactly if there is a writer. If it is refused, nothing changes. The scans that
+    /// may wait have at most 4,194,304 bytes. All memory that the writer ever takes is taken here.
     pub fn start(&mut self, mask: Mask, capacity: u32, cyclic: bool) -> Result<(), OutFault>
         requires below { mask.bits < 2 ^ count_of self.old.shape }
         requires channel { has_below mask.bits (count_of self.old.shape) ≡ true }
@@ -139,10 +139,10 @@ impl Out {
     }
 
     /// Writes a payload: the first of its scans that fit are taken, and wait after those that wait, in their order. It is
-    /// refused, in this order, as `BadSize` exactly where its length isn't a multiple of a scan's bytes, or, for a cyclic
-    /// writer, is 0 or has more scans than the capacity; as `Standing` exactly where a cyclic writer has written its cycle;
-    /// as `Full` exactly where its length isn't 0 and a writer that isn't cyclic has `capacity` scans waiting. Where it is
-    /// refused nothing changes.
+    /// refused, in this order, as `BadSize` exactly if its length isn't a multiple of a scan's size, or, for a cyclic writer,
+    /// is 0 or has more scans than the capacity; as `Standing` exactly if a cyclic writer has written its cycle; as `Full`
+    /// exactly if its length isn't 0 and a writer that isn't cyclic has `capacity` scans waiting. If it is refused, nothing
+    /// changes.
     pub fn write(&mut self, bytes: &[u8]) -> Wrote
         requires { IsSome self.old.writer }
         ensures answer { IfSome self.old.writer (λ w. result ≡ write_answer w bytes.now) }
@@ -155,9 +155,9 @@ impl Out {
         }
     }
 
-    /// Gives the device its next scan: the first that waits is moved into `out`, which has the bytes of a scan; a cyclic
-    /// writer's waits again, after the others. `Underrun` comes exactly where none waits, for a cyclic writer where it has
-    /// no cycle; it is counted.
+    /// Gives the device its next scan: the first that waits is moved into `out`, which has the size of a scan. A cyclic
+    /// writer's scan waits again, after the others. Returns `Underrun` exactly if none waits, for a cyclic writer if it has no
+    /// cycle; the underrun is counted.
     pub fn next(&mut self, out: &mut [u8]) -> Next
         requires writer { IsSome self.old.writer }
         requires size { IfSome self.old.writer (λ w. length out.old ≡ w.size) }
@@ -172,7 +172,7 @@ impl Out {
         answer
     }
 
-    // Gives the device its next scan, and keeps what it has of each channel.
+    // Gives the device its next scan, and keeps what that has of each channel.
     fn give(&mut self, out: &mut [u8]) -> Next
         requires writer { IsSome self.old.writer }
         requires size { IfSome self.old.writer (λ w. length out.old ≡ w.size) }
@@ -196,7 +196,7 @@ impl Out {
         answer
     }
 
-    // Counts an entry where it was an underrun.
+    // Counts an entry if it was an underrun.
     fn count(&mut self, answer: Next)
         ensures { self.new ≡ record self.old { underruns = underruns_with answer self.old.underruns } }
     {
@@ -205,7 +205,7 @@ impl Out {
         }
     }
 
-    /// Ends the writer, where there is one. What waits is dropped, and what was given last stays.
+    /// Ends the writer, if there is one. What waits is dropped, and what was given last stays.
     pub fn stop(&mut self)
         ensures { self.new ≡ without_writer self.old }
     {

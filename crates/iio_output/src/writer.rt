@@ -17,9 +17,9 @@ use std::marker::Model;
 pub enum Wrote {
     /// This number of its bytes is taken: the first scans that fit.
     Bytes(u32),
-    /// It isn't whole scans, or for a cyclic writer it is empty or more scans than the capacity.
+    /// The payload isn't whole scans, or for a cyclic writer it is empty or more scans than the capacity.
     BadSize,
-    /// The writer is cyclic, and has written its cycle.
+    /// The writer is cyclic, and has written its cycle already.
     Standing,
     /// As many scans wait as the capacity.
     Full,
@@ -34,14 +34,15 @@ pub enum Next {
     Underrun,
 }
 
-/// A writer: the mask of its scans, the bytes of one, the most that wait, whether it is cyclic, and the scans that wait.
+/// A writer: the mask of its scans, the size of one in bytes, the most that wait, whether it is cyclic, and the scans that
+/// wait.
 #[derive(Drop)]
 pub(crate) struct Writer {
     mask: Mask,
     size: u32,
     capacity: u32,
     cyclic: bool,
-    // Of a cyclic writer the scans of its cycle, from the one that is given next on.
+    // For a cyclic writer the scans of its cycle, from the one that is given next on.
     bytes: HeapCircularBuffer<u8>,
 }
 
@@ -59,7 +60,7 @@ impl Model for Writer {
 }
 
 impl Writer {
-    /// A writer that has written nothing. All memory that it ever takes is taken here.
+    /// Makes a writer that has written nothing. All memory that it ever takes is taken here.
     pub(crate) fn new(
         alloc: Global,
         mask: Mask,
@@ -82,21 +83,21 @@ impl Writer {
         })
     }
 
-    /// The mask of its scans.
+    /// The mask of the writer's scans.
     pub(crate) fn mask(&self) -> Mask
         ensures { result.bits ≡ self.now.mask }
     {
         self.mask
     }
 
-    /// How many scans wait.
+    /// The number of scans that wait.
     pub(crate) fn waiting(&self) -> u32
         ensures { result ≡ length self.now.scans }
     {
         self.bytes.len() as u32 / self.size
     }
 
-    // Whether a payload of that length isn't whole scans, or, of a cyclic writer, not as many as can be its cycle.
+    // Whether a payload of that length isn't whole scans, or, for a cyclic writer, not a number of scans that can be its cycle.
     fn is_bad_size(&self, length: usize) -> bool
         ensures { result ≡ is_bad_size self.now.cyclic self.now.capacity self.now.size length }
     {
@@ -104,14 +105,14 @@ impl Writer {
         length % size != 0 || self.cyclic && (length == 0 || length / size > self.capacity as usize)
     }
 
-    // Whether it is cyclic, and has written its cycle.
+    // Whether the writer is cyclic and has written its cycle.
     fn is_standing(&self) -> bool
         ensures { result ≡ is_standing self.now.cyclic self.now.scans }
     {
         self.cyclic && !self.bytes.is_empty()
     }
 
-    // Whether it isn't cyclic, and has no room for a scan that it is offered.
+    // Whether the writer isn't cyclic, is offered a scan and has no room for it.
     fn is_full(&self, payload: &[u8]) -> bool
         ensures { result ≡ is_full self.now.cyclic self.now.capacity self.now.scans (scans_of self.now.size payload.now) }
     {
@@ -136,7 +137,7 @@ impl Writer {
         }
     }
 
-    /// Takes the first scans of a payload that fit, after those that wait.
+    /// Takes the first scans of a payload that fit, and puts them after those that wait.
     pub(crate) fn write(&mut self, payload: &[u8]) -> Wrote
         ensures answer { result ≡ write_answer self.old payload.now }
         ensures written { self.new ≡ after_write self.old payload.now }
@@ -148,7 +149,7 @@ impl Writer {
         Wrote::Bytes(taken as u32)
     }
 
-    /// Moves the first scan that waits into `out`. A cyclic writer's waits again, after the others.
+    /// Moves the first scan that waits into `out`. A cyclic writer's scan waits again, after the others.
     pub(crate) fn next(&mut self, out: &mut [u8]) -> Next
         requires { length out.old ≡ self.old.size }
         ensures answer { result ≡ next_answer self.old.scans }

@@ -1,4 +1,4 @@
--- Devices as they are made: one after another.
+-- Devices that are made one after another.
 use Rattle.std.proofs.Common.{◌≡◌, ℕ, zero, suc, ◌+◌, ◌<◌, Bool, true, false, List, [], ◌∷◌, ◌++◌, map, length, set, slice_get, slice_index_or, Option, Some, None, IfSome, refl, sym, ap, subst, ◌∙◌, arith}
 use Rattle.std.specs.Prelude.{◌==◌, ◌||◌, All, AllPairs, unwrap_or}
 use Rattle.std.specs.List.{list_any}
@@ -86,7 +86,7 @@ devices_append {Q} drivers n m (y ∷ ys) x e =
     ap (λ (vs : List (DeviceView Q)). new_view y n (first_driver drivers y) ∷ vs) (devices_append drivers (suc n) m ys x (omega (arith, e)))
 
 module _ {B D Q : Type 0} (given : B → Driver) (view : D → DeviceView Q) (descs : List DeviceRecord) (drivers : List B) where
-  -- that many devices are made, and the drivers of the others lie in their slots
+  -- that many devices are made, and the drivers of the others are still in their slots
   pub record Making (done left : List DeviceRecord) (devices : List D) (slots : List (Option B)) : Type 0 where
     pub whole : done ++ left ≡ descs
     pub views : map view devices ≡ first_devices (map given drivers) 0 done
@@ -94,7 +94,7 @@ module _ {B D Q : Type 0} (given : B → Driver) (view : D → DeviceView Q) (de
     pub waiting : (k : ℕ) (d : B) → slice_get drivers k ≡ Some d → list_any (drives k) done ≡ false → slice_get slots k ≡ Some (Some d)
     pub slots_are : length slots ≡ length drivers
 
-  -- the same, over another name of the devices, or of what is left
+  -- the same, by another name of the devices or of what is left
   pub pushed : (done left : List DeviceRecord) (devices devices' : List D) (slots : List (Option B)) → devices' ≡ devices → Making done left devices slots
       → Making done left devices' slots
   pushed done left devices devices' slots e making = subst (λ (ds : List D). Making done left ds slots) (sym e) making
@@ -134,7 +134,7 @@ module _ {B D Q : Type 0} (given : B → Driver) (view : D → DeviceView Q) (de
     slots_after None after = ap (λ (s : List (Option B)). length s) after ∙ making.slots_are
     slots_after (Some j) after = ap (λ (s : List (Option B)). length s) after ∙ length_after slots j None ∙ making.slots_are
 
-    -- one device more
+    -- another device
     pub made_next : (n : ℕ) → n ≡ length devices → IfSome x.driver (λ k. k < length drivers)
         → view d ≡ new_view x n (driver_from given (slot_in x.driver slots) x.rows)
         → slots' ≡ slots_left x.driver slots → Making (done ++ x ∷ []) left (devices ++ d ∷ []) slots'

@@ -1,4 +1,4 @@
-//! The devices of a description, before anything was done.
+//! The devices of a description, before anything is done with them.
 
 ghost use Rattle.std.specs.Prelude.{◌≡◌, ◌<◌, ◌≤◌, All, AllPairs, IfOk, IfSome, None, Some, false, length, map, slice_get, slice_set};
 ghost use Rattle.iio_desc.specs.WellFormed.{share_driver};
@@ -30,7 +30,7 @@ fn slots_of(
     Ok(slots)
 }
 
-// Takes what lies in a slot.
+// Takes what is in a slot.
 fn take_slot(
     slots: &mut Vec<Option<Box<dyn Sensor + Send>>>,
     k: usize,
@@ -42,7 +42,7 @@ fn take_slot(
     slots[k].take()
 }
 
-// What a device samples: the driver in the slot of its number, or its rows.
+// What a device samples: the driver in the slot of its driver's number, or its rows.
 fn plug_of(slots: &mut Vec<Option<Box<dyn Sensor + Send>>>, driver: Option<u32>, rows: Rows) -> Plug
     requires within { IfSome driver (λ k. k < length slots.old.items) }
     requires recording { IsRecording rows }
@@ -58,7 +58,7 @@ fn plug_of(slots: &mut Vec<Option<Box<dyn Sensor + Send>>>, driver: Option<u32>,
     }
 }
 
-// A device of a description. Its rows, if it samples them, are its plug's.
+// Makes a device of a description. Its rows, if it samples them, go to its plug.
 fn device_of<Q: Tail>(
     alloc: Global,
     desc: DeviceDesc,
@@ -96,9 +96,9 @@ fn device_of<Q: Tail>(
     Device::new(alloc, desc, number, plug)
 }
 
-/// The devices of a description, numbered by their places in it: none has a member, each has the trigger and the attributes
-/// that its description writes. A device of a driver's number samples the driver of that number, any other its recorded
-/// rows. Drivers that no device names are dropped.
+/// Makes the devices of a description, numbered by their places in it: none has a member, each has the trigger and the
+/// attributes that its description writes. A device with a driver's number samples that driver, any other its recorded rows.
+/// Drivers that no device names are dropped.
 pub fn devices_of<Q: Tail + Drop>(
     alloc: Global,
     descs: Vec<DeviceDesc>,

@@ -1,4 +1,4 @@
-//! Probing: the devices of a description, each with what it samples.
+//! Probing: makes the devices of a description, each with what it samples.
 #![tactic(auto)]
 
 mod devices;

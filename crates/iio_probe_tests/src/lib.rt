@@ -1,4 +1,4 @@
-//! Tests of devices that are made of descriptions: members, masks, captures.
+//! Tests of devices that are made from descriptions: members, masks, captures.
 #![tactic(auto)]
 
 #[cfg(test)]

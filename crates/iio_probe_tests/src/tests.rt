@@ -1,4 +1,4 @@
-//! A device of three channels, by hand.
+//! Tests of a device of three channels, step by step.
 
 mod devices;
 mod groups;

@@ -109,7 +109,7 @@ channel_bytes-append f [] ys = refl
 channel_bytes-append f (x ∷ xs) ys =
     ap (λ t. element_bytes f x ++ t) (channel_bytes-append f xs ys) ∙ sym (append_assoc (element_bytes f x) (channel_bytes f xs) (channel_bytes f ys))
 
--- one element more
+-- another element
 pub channel_bytes-more : (f : Format) (xs : List ℤ) (k : ℕ) (v : ℤ) → k < length xs → v ≡ get_or xs k v
     → channel_bytes f (take (k + 1) xs) ≡ channel_bytes f (take k xs) ++ element_bytes f v
 channel_bytes-more f xs k v h e =
@@ -171,7 +171,7 @@ value_at-channel_bytes f vs k d p h range =
     ∙ ap (value_in f) (number_of-number_bytes f.endian (element_size f) number fits)
     ∙ ap (value_by f.sign f.realbits) field ∙ value-low_bits f.sign f.realbits v b.some range.0 range.1
 
--- the loop that writes the elements: one more
+-- the loop that writes the elements writes another one
 pub put_more : (f : Format) (vs : List ℤ) (k n : ℕ) (out part : List ℕ) (v : ℤ) → n ≡ element_size f → k < length vs → v ≡ get_or vs k v
     → (k + 1) * n ≤ length out → part ≡ element_bytes f v → take (k * n) out ≡ channel_bytes f (take k vs)
     → take ((k + 1) * n) (put_mid (k * n) ((k + 1) * n - k * n) out part) ≡ channel_bytes f (take (k + 1) vs)
@@ -181,7 +181,7 @@ put_more f vs k n out part v size h e room w so_far =
     take-put_mid (k * n) ((k + 1) * n - k * n) out part ((k + 1) * n) (omega arith) (omega arith)
     ∙ ap (λ t. t ++ part) so_far ∙ ap (λ t. channel_bytes f (take k vs) ++ t) w ∙ sym (channel_bytes-more f vs k v h e)
 
--- what is read lies in the range, and its bits are those that stand there
+-- what is read lies in the range, and its bits are those in the storage
 pub value_in-range : (f : Format) (n : ℕ) → IsInProfile f → IsInRange f (value_in f n)
 value_in-range f n p =
     value_in_range f.sign f.realbits (n / 2 ^ f.shift % 2 ^ f.realbits) (bounds_of f p).some (mod_below (n / 2 ^ f.shift) (2 ^ f.realbits) (pow_pos f.realbits))

@@ -7,13 +7,13 @@ use Rattle.std.proofs.lemmas.Grind.{common_steps}
 use Rattle.std.specs.Int.{bytes_low_first, bytes_high_first, byte_at, from_le_bytes, from_be_bytes, w64}
 use Rattle.iio_scan_type.specs.Bytes.{low_first_number}
 
--- fewer bytes are the first of more
+-- fewer bytes, lowest first, are the first of more
 pub take-bytes_low_first : (i k m n : ℕ) → k ≤ m → take k (bytes_low_first i m n) ≡ bytes_low_first i k n
 take-bytes_low_first i zero m n h = refl
 take-bytes_low_first i (suc k) zero n h = absurd (omega arith)
 take-bytes_low_first i (suc k) (suc m) n h = ap (λ t. byte_at i n ∷ t) (take-bytes_low_first (suc i) k m n (omega arith))
 
--- and the last
+-- fewer bytes, highest first, are the last of more
 pub drop-bytes_high_first : (k m n : ℕ) → k ≤ m → drop (m - k) (bytes_high_first m n) ≡ bytes_high_first k n
 drop-bytes_high_first k zero n h = let none : k ≡ 0 = omega arith in rw none refl
 drop-bytes_high_first k (suc m) n h =
@@ -29,7 +29,7 @@ pub low_first_number-append : (xs ys : List ℕ) → low_first_number (xs ++ ys)
 low_first_number-append [] ys = grind arith
 low_first_number-append (x ∷ xs) ys = rw (low_first_number-append xs ys, pow-succ' 256 (length xs)) (regroup x _ _ _)
 
--- eight bytes are std's number of a word
+-- eight bytes make std's number of a word
 pub low_first_word : (w : List ℕ) → length w ≡ 8 → from_le_bytes w64 w ≡ low_first_number w
 low_first_word (a ∷ b ∷ c ∷ d ∷ e ∷ f ∷ g ∷ h ∷ []) l = omega arith
 low_first_word w l = absurd (omega arith)
@@ -38,7 +38,7 @@ pub high_first_word : (w : List ℕ) → length w ≡ 8 → from_be_bytes w64 w 
 high_first_word (a ∷ b ∷ c ∷ d ∷ e ∷ f ∷ g ∷ h ∷ []) l = omega arith
 high_first_word w l = absurd (omega arith)
 
--- zero bytes above the others say nothing
+-- zero bytes above the others don't change the number
 zeros_above : (xs zs : List ℕ) → low_first_number zs ≡ 0 → low_first_number (xs ++ zs) ≡ low_first_number xs
 zeros_above xs zs h = rw (low_first_number-append xs zs, h) (grind arith)
 

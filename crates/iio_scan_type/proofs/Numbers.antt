@@ -21,7 +21,7 @@ shr_ones j k = rw (pow-add 2 j k, last_row (2 ^ j) (2 ^ k) (pow_pos j) (pow_pos 
 flip_parts : (p q r m : ℕ) → m < r → (p + 1 + q) * r - suc (q * r + m) ≡ p * r + (r - 1 - m)
 flip_parts p q r m h = grind arith
 
--- the bits of m turned, as two parts
+-- the bits of m inverted, as two parts
 complement : (j k m : ℕ) → m < 2 ^ (j + k) → 2 ^ (j + k) - suc m ≡ (2 ^ j - 1 - m / 2 ^ k) * 2 ^ k + (2 ^ k - 1 - m % 2 ^ k)
 complement j k m h =
     let q : ℕ = m / 2 ^ k in
@@ -109,7 +109,7 @@ greatest_unsigned r most =
     let q : 2 ^ r ≤ 2 ^ 63 = pow-le-pow_right {n = 2} (omega arith) {i = r} {j = 63} (omega arith) in
     rw e (omega (arith, ints))
 
--- to set a sum to the end of its word first changes nothing
+-- saturating a sum to its word first changes nothing
 pub saturate_first : (l g z : ℤ) → FitsSigned w64 l → FitsSigned w64 g → l ≤ℤ g → int_max l (int_min (saturate_signed w64 z) g) ≡ int_max l (int_min z g)
 saturate_first l g z p q h = grind (arith, ints)
 
@@ -137,7 +137,7 @@ bounds_of f h =
       most = grind (arith, nat_tests);
     }
 
--- the number of an element, as its word is shifted
+-- the number of an element, computed by shifts of its word
 pub number_put : (f : Format) (v : ℤ) (u : ℕ) → IsInProfile f → FitsSigned w64 v → u ≡ cast_unsigned w64 v
     → (u * 2 ^ (64 - f.realbits)) % 2 ^ 64 / 2 ^ (64 - f.realbits - f.shift) ≡ low_bits f.realbits v * 2 ^ f.shift
 number_put f v u p h e =
@@ -171,7 +171,7 @@ size_power f h = product (storage_cases f.storagebits (bounds_of f h).storage) (
     product (inr (inr (inl s))) r = by_repeat (f.storagebits / 8) 2 (ap (λ n. n / 8) s) r
     product (inr (inr (inr s))) r = by_repeat (f.storagebits / 8) 3 (ap (λ n. n / 8) s) r
 
--- the value of an element, as its word is shifted
+-- the value of an element, computed by shifts of its word
 pub number_field : (f : Format) (n : ℕ) → IsInProfile f
     → (n * 2 ^ (64 - f.realbits - f.shift)) % 2 ^ 64 / 2 ^ (64 - f.realbits) ≡ n / 2 ^ f.shift % 2 ^ f.realbits
 number_field f n p =
@@ -218,7 +218,7 @@ ends_fit f p = by_sign f.sign f.realbits (bounds_of f p).some (bounds_of f p).mo
         let q : 2 ^ r ≤ 2 ^ 63 = pow-le-pow_right {n = 2} (omega arith) {i = r} {j = 63} most in
         (omega (arith, ints), omega (arith, ints), omega (arith, ints))
 
--- to set a sum to the end of its word first changes nothing
+-- saturating a sum to its word first changes nothing
 pub saturated_first : (f : Format) (z : ℤ) → IsInProfile f → saturated f (saturate_signed w64 z) ≡ saturated f z
 saturated_first f z p = let (low, high, order) = ends_fit f p in saturate_first (least_of f) (greatest_of f) z low high order
 

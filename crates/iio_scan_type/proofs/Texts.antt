@@ -1,4 +1,4 @@
--- A text that is read is spelled so, and what is spelled so is read.
+-- A text that is read has the spelling, and a text that has the spelling is read.
 use Rattle.std.proofs.Common.{◌≡◌, ℕ, zero, suc, ◌+◌, ◌-◌, ◌*◌, ◌/◌, ◌%◌, ◌<◌, ◌≤◌, List, [], ◌∷◌, ◌++◌, refl, ap, sym, ◌∙◌, subst, arith, Bool, true, false, cond, ◌==◌, ◌⊎◌, inl, inr, ltb, IfSome, Option, Some, None, codes, append_assoc, append-nil, eqb-true}
 use Rattle.std.proofs.lemmas.Option.{none-some, same_Some, cond_some, option_and_then_some}
 use Rattle.std.proofs.lemmas.Fmt.{decimal_digit, decimal_step}
@@ -50,7 +50,7 @@ first_is b bs low high p h = by_cases (b == 48) refl
 
 -- ---- what is read is spelled so
 
--- which way a choice went
+-- the two cases of a choice
 chosen : {A P : Type 0} (b : Bool) (x y z : A) → cond b x y ≡ z → (b ≡ true → x ≡ z → P) → (b ≡ false → y ≡ z → P) → P
 chosen true x y z h j k = j refl h
 chosen false x y z h j k = k refl h

@@ -37,7 +37,7 @@ abbrev pub number_of : Endian → List ℕ → ℕ
 number_of Little bytes = low_first_number bytes
 number_of Big bytes = low_first_number (reverse bytes)
 
--- the value of `bits` bits, read in two's complement where it is signed
+-- the value of `bits` bits, read in two's complement if it is signed
 abbrev pub value_by : Sign → ℕ → ℕ → ℤ
 value_by Unsigned bits n = pos n
 value_by Signed bits n = if nat_lt n (2 ^ (bits - 1)) then pos n else (pos n -ℤ pos (2 ^ bits))

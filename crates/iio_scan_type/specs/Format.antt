@@ -44,7 +44,7 @@ in_profile f =
     && nat_le f.realbits (max_realbits f.sign)
     && nat_le (f.realbits + f.shift) f.storagebits
 
--- that a type is one of these, as a fact
+-- a type is one of these
 abbrev pub IsInProfile : Format → Type 0
 IsInProfile f = IsTrue (in_profile f)
 
@@ -69,7 +69,7 @@ greatest_of f = greatest_by f.sign f.realbits
 abbrev pub IsInRange : Format → ℤ → Type 0
 IsInRange f v = (least_of f ≤ℤ v) × (v ≤ℤ greatest_of f)
 
--- the value, or the nearer end of the range where it lies outside (this project's own)
+-- the value, or the nearer end of the range if it lies outside (this project's own)
 abbrev pub saturated : Format → ℤ → ℤ
 saturated f v = int_max (least_of f) (int_min v (greatest_of f))
 

@@ -15,7 +15,7 @@ abbrev pub sign_text : Sign → List ℕ
 sign_text Signed = codes "s"
 sign_text Unsigned = codes "u"
 
--- a single element isn't said
+-- the repeat; a single element isn't written
 abbrev pub repeat_text : ℕ → List ℕ
 repeat_text n = if n == 1 then [] else codes "X" ++ decimal n
 
@@ -77,12 +77,12 @@ abbrev pub small_at : List ℕ → Option (ℕ × List ℕ)
 small_at [] = None
 small_at (b ∷ bs) = if is_digit b then Some (if b == 48 then (0, bs) else second_digit (b - 48) bs) else None
 
--- `X` and a number other than 1, or 1 where nothing is said
+-- `X` and a number other than 1, or 1 if nothing is said
 abbrev pub repeat_at : List ℕ → Option (ℕ × List ℕ)
 repeat_at [] = Some (1, [])
 repeat_at (b ∷ bs) = if b == 88 then (small_at bs >>= λ n. if n.0 == 1 then None else Some n) else Some (1, b ∷ bs)
 
--- `>>` and a number, which end the text, or 0 where nothing is said
+-- `>>` and a number, which end the text, or 0 if nothing is said
 abbrev pub shift_at : List ℕ → Option ℕ
 shift_at [] = Some 0
 shift_at (b ∷ bs) = do
@@ -91,11 +91,11 @@ shift_at (b ∷ bs) = do
   shift ← small_at rest
   if is_empty shift.1 then Some shift.0 else None
 
--- the type where it is in the profile
+-- the type, if it is in the profile
 abbrev pub profiled : Format → Option Format
 profiled f = if in_profile f then Some f else None
 
--- the type that a text spells, where there is one
+-- the type that a text spells, if it spells one
 abbrev pub type_of : List ℕ → Option Format
 type_of text = do
   endian ← endian_at text

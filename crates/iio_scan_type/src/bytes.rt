@@ -7,7 +7,7 @@ ghost use Rattle.iio_scan_type.specs.Bytes.{number_bytes, number_of};
 
 use crate::Endian;
 
-/// Writes the lowest bytes of a number, as many as there is room for.
+/// Writes the lowest bytes of a number, as many as `out` has.
 #[inline]
 pub fn write_number(number: u64, endian: Endian, out: &mut [u8])
     requires { length out.old ≤ 8 }
@@ -19,7 +19,7 @@ pub fn write_number(number: u64, endian: Endian, out: &mut [u8])
     }
 }
 
-/// Writes a number of `bits` bits, whole bytes, at the front of eight bytes. Those after them get any value.
+/// Writes a number of `bits` bits, a whole number of bytes, to the front of eight bytes. The bytes after it are unspecified.
 #[inline]
 pub fn write_word(number: u64, bits: u8, endian: Endian, out: &mut [u8])
     requires storage { IsTrue (is_storage bits) }
@@ -35,7 +35,7 @@ pub fn write_word(number: u64, bits: u8, endian: Endian, out: &mut [u8])
 
 // Each size of an element has a copy of its own, whose length is known when it is compiled.
 
-/// The first bytes.
+/// Copies the first bytes, as many as `out` has.
 #[inline]
 fn write_front(bytes: &[u8; 8], out: &mut [u8])
     requires { length out.old ≤ 8 }
@@ -50,7 +50,7 @@ fn write_front(bytes: &[u8; 8], out: &mut [u8])
     }
 }
 
-/// The last bytes.
+/// Copies the last bytes, as many as `out` has.
 #[inline]
 fn write_back(bytes: &[u8; 8], out: &mut [u8])
     requires { length out.old ≤ 8 }
@@ -65,7 +65,7 @@ fn write_back(bytes: &[u8; 8], out: &mut [u8])
     }
 }
 
-/// The number that stands in the bytes.
+/// The number that the bytes stand for.
 pub fn read_number(bytes: &[u8], endian: Endian) -> u64
     requires { length bytes.now ≤ 8 }
     ensures { result ≡ number_of endian bytes.now }

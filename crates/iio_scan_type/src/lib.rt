@@ -42,7 +42,7 @@ pub enum Endian {
 
 /// The type of a channel's elements. Each one is in the profile: a storage of 8, 16, 32 or 64 bits,
 /// 1, 2, 4 or `MAX_REPEAT` elements, at most `MAX_CHANNEL_SIZE` bytes in all, and a value of 1 to 63 bits, or of 64
-/// where it is signed, which lies within its storage after the shift.
+/// if it is signed, which lies within its storage after the shift.
 #[derive(Clone, Copy, Debug, PartialEq, Eq)]
 pub struct ScanType {
     sign: Sign,
@@ -88,7 +88,7 @@ fn max_realbits(sign: Sign) -> u8
     }
 }
 
-// The sum, or the nearer end of 64 bits. Most biases are 0, and then nothing is to be reckoned.
+// The sum, or the nearer end of 64 bits. Most biases are 0, and then nothing has to be computed.
 #[inline]
 fn saturating_add(value: i64, bias: i64) -> i64
     ensures { result ≡ saturate_signed w64 (value +ℤ bias) }
@@ -100,7 +100,7 @@ fn saturating_add(value: i64, bias: i64) -> i64
 }
 
 impl ScanType {
-    /// The type of these parts. `None` comes exactly where it isn't in the profile.
+    /// Makes the type of these parts. Returns `None` exactly if it isn't in the profile.
     pub fn new(
         sign: Sign,
         realbits: u8,
@@ -159,14 +159,14 @@ impl ScanType {
         self.sign
     }
 
-    /// The bits of a value.
+    /// The number of bits of a value.
     pub fn realbits(&self) -> u8
         ensures { result ≡ self.now.realbits }
     {
         self.realbits
     }
 
-    /// The bits of an element's storage.
+    /// The number of bits of an element's storage.
     pub fn storagebits(&self) -> u8
         ensures { result ≡ self.now.storagebits }
     {
@@ -198,7 +198,7 @@ impl ScanType {
         self.endian
     }
 
-    /// How many bytes one element has: the bits of its storage, in bytes.
+    /// The size of one element in bytes, which is that of its storage.
     #[inline]
     pub fn element_size(&self) -> u32
         ensures value { result ≡ element_size self.now }
@@ -209,7 +209,7 @@ impl ScanType {
         u32::from(self.storagebits / 8)
     }
 
-    /// How many bytes a channel of this type has in a scan: all its elements. It is a power of two.
+    /// The size of a channel of this type in a scan, in bytes, with all its elements. It is a power of two.
     #[inline]
     pub fn size(&self) -> u32
         ensures value { result ≡ size_of self.now }
@@ -237,7 +237,7 @@ impl ScanType {
         }
     }
 
-    /// The value, or the nearer end of the range where it lies outside.
+    /// The value, or the nearer end of the range if it lies outside.
     #[inline]
     pub fn saturate(&self, value: i64) -> i64
         ensures value { result ≡ saturated self.now value }
@@ -246,7 +246,7 @@ impl ScanType {
         self.saturating_sum(value, 0)
     }
 
-    /// The exact sum of both, or the nearer end of the range where it lies outside.
+    /// The exact sum of both, or the nearer end of the range if it lies outside.
     #[inline]
     pub fn saturating_sum(&self, value: i64, bias: i64) -> i64
         ensures value { result ≡ saturated self.now (value +ℤ bias) }
@@ -260,7 +260,7 @@ impl ScanType {
         sum.clamp(least, greatest)
     }
 
-    // Whether the lowest bits of a value say all of it; then it lies in the range.
+    // Whether the lowest bits of a value give it back; then it lies in the range.
     #[inline]
     fn carries(&self, value: i64) -> bool
         ensures range { IsTrue result → IsInRange self.now value }
@@ -270,8 +270,8 @@ impl ScanType {
         self.extended(word) == value
     }
 
-    /// Writes a channel: its values as elements, the first one first. Bits that lie outside a shifted
-    /// value are 0. Of a value outside the range its lowest `realbits` bits are written.
+    /// Writes a channel: its values as elements, the first one first. Bits that lie outside a shifted value are 0. If a value
+    /// is outside the range, its lowest `realbits` bits are written.
     pub fn put(&self, values: &[i64], out: &mut [u8])
         requires repeat { length values.now ≡ self.now.repeat }
         requires size { length out.old ≡ size_of self.now }
@@ -286,8 +286,8 @@ impl ScanType {
         }
     }
 
-    /// Writes one element in its storage. Bits that lie outside the shifted value are 0. Of a value outside the range
-    /// its lowest `realbits` bits are written.
+    /// Writes one element in its storage. Bits that lie outside the shifted value are 0. If the value is outside the range, its
+    /// lowest `realbits` bits are written.
     #[inline]
     pub fn put_element(&self, value: i64, out: &mut [u8])
         requires { length out.old ≡ element_size self.now }
@@ -296,8 +296,8 @@ impl ScanType {
         write_number(self.number(value), self.endian, out);
     }
 
-    /// Writes one element as `put_element` does, at the front of bytes of which there may be more. Nothing is said of
-    /// those after the element.
+    /// Writes one element, like `put_element`, to the front of `out`, which may be longer. The bytes after the element are
+    /// unspecified.
     #[inline(always)]
     pub fn put_front(&self, value: i64, out: &mut [u8])
         requires { element_size self.now ≤ length out.old }

@@ -41,7 +41,7 @@ fn sign_at(text: &[u8]) -> Option<(Sign, &[u8])>
     }
 }
 
-/// A number of one or two digits without a leading zero. No number in the profile has more.
+/// Reads a number of one or two digits without a leading zero. No number in the profile has more.
 fn small_at(text: &[u8]) -> Option<(u8, &[u8])>
     ensures { option_map (λ x. (x.0, x.1.now)) result ≡ small_at text.now }
 {
@@ -89,14 +89,14 @@ fn spelled(text: &[u8]) -> Option<ScanType>
     ScanType::new(sign, realbits, storagebits, shift, repeat, endian)
 }
 
-/// The type that a text spells: `be:` or `le:`, `s` or `u`, the real bits, `/`, the storage bits,
-/// `X` and the repeat where it is above 1, `>>` and the shift. A text without `>>` has the shift 0.
-/// `None` comes exactly where the text isn't such a spelling of a type in the profile.
+/// The type that a text spells: `be:` or `le:`, `s` or `u`, the real bits, `/`, the storage bits, `X` and the repeat if it is
+/// above 1, `>>` and the shift. A text without `>>` has the shift 0. Returns `None` exactly if the text isn't such a spelling
+/// of a type in the profile.
 pub fn read_type(text: &[u8]) -> Option<ScanType>
     ensures value { result ≡ type_of text.now }
-    // What is read is spelled so.
+    // What is read has that spelling.
     ensures found { IfSome result (λ f. IsInProfile f × IsTypeText text.now f) }
-    // What is spelled so is read.
+    // What has that spelling is read.
     ensures only { (f : Format) → IsInProfile f → IsTypeText text.now f → result ≡ Some f }
 {
     spelled(text)
@@ -127,7 +127,7 @@ impl fmt::Display for ScanType {
     }
 }
 
-/// The printed spelling of a type, which has its shift always and its repeat where it isn't 1.
+/// The printed spelling of a type, always with its shift, and with its repeat if that isn't 1.
 pub fn print_type(alloc: Global, ty: &ScanType) -> Result<String, Mem>
     ensures { IfOk result (λ s. string_bytes s ≡ type_text ty.now) }
 {

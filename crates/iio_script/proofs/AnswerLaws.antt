@@ -34,7 +34,7 @@ cut_step : (ends : Bool) (one one' other other' : Head) → (one ≡ Cut → one
 cut_step true one one' other other' first second is = first is
 cut_step false one one' other other' first second is = second is
 
--- where no line ends it or is refused, none of the first ones does or is
+-- if no line of all ends it or is refused, none of the first lines does or is
 head_take : (reader : Reader) (n k : ℕ) (lines : List (List ℕ)) → head_from true reader n lines ≡ Cut → head_from true reader n (take k lines) ≡ Cut
 head_take (Err fault) n k lines is = absurd (no_fault fault is)
 head_take (Ok reading) n zero lines is = refl
@@ -88,7 +88,7 @@ answers_more s first front input sent more begin left (inr a) = inr (record {
   written = ap (λ t. t ++ more) a.written ∙ append_assoc (script_text s (script_from s.desc Finished [] first a.given)) a.more more;
 })
 
--- all was written, and then read on
+-- all was written, and after that a read was made
 pub answers_found : (s : Setup) (first : ℕ) (front given : List (List ℕ)) (input sent : List ℕ) (h : Hand) (begin left : Option (List ℕ)) → IsHand h
     → sent ≡ script_text s (script_from s.desc Finished [] first given) → h.over ≡ false → Follows input (front ++ given) h left
     → AnswersScript s first front input sent begin left
@@ -105,7 +105,7 @@ answers_found s first front given input sent h begin left is all going follows =
       written = all ∙ sym (append-nil (script_text s (script_from s.desc Finished [] first given)));
     })
 
--- a line that a look has told needs no read; for any other nothing was kept
+-- a line that a look has found needs no read; before any other, nothing was kept
 pub read_on : (seen : Option Found) (l1 l2 : Option (List ℕ)) (h1 h2 : Hand) (kept : List ℕ) → IfSome seen (λ _. l2 ≡ l1) → (seen ≡ None → kept ≡ [])
     → IfNone seen (NeedsMore h1)
     → h2.over ≡ h1.over → (l2 ≡ l1) ⊎ ((h2.over ≡ false) × (kept ≡ []))

@@ -1,4 +1,4 @@
--- A step costs no more than the bytes of its line, and one.
+-- A step costs at most the bytes of its line and one more.
 use Rattle.std.proofs.Common.{◌≡◌, ℕ, zero, suc, ℤ, ◌+◌, ◌-◌, ◌≤◌, ◌==◌, ◌&&◌, Bool, true, false, cond, List, [], ◌∷◌, length, take, Option, Some, None, IfSome, Result, Ok, Err, refl, subst, arith}
 use Rattle.std.specs.Prelude.{option_and_then, slice_index}
 use Rattle.std.specs.Option.{ok_or}
@@ -22,7 +22,7 @@ use Rattle.iio_system.specs.declared.step.Step.TheVariants as code
 use Rattle.iio_system.specs.Step.{cost_of, step_view}
 use Rattle.iio_script.proofs.OutlineLemmas.{Each, entry_has}
 
--- ---- unescaping doesn't lengthen
+-- ---- unescaping makes no text longer
 
 abbrev NoLonger : ℕ → Result (List ℕ) ℕ → Type 0
 NoLonger n (Ok bytes) = length bytes ≤ n
@@ -47,7 +47,7 @@ unescaped_few place (suc passed) (b ∷ rest) = no_longer_next (length rest) (un
 unescaped_few place zero (b ∷ rest) =
     no_longer_piece place (length rest) (piece_of (b ∷ rest)) (λ more. unescaped_from (place + 1) more rest) (λ more. unescaped_few (place + 1) more rest)
 
--- ---- a quoted text has more bytes than it means
+-- ---- a quoted text has more bytes than what it stands for
 
 abbrev HasFew : ℕ → Option (List ℕ) → Type 0
 HasFew n text = IfSome text (λ bytes. length bytes ≤ n)
@@ -191,7 +191,7 @@ few_by_words : (desc : Description) (line : List ℕ) (read : Result (List (List
 few_by_words desc line (Ok words) = few_of_words desc line words
 few_by_words desc line (Err refusal) = tt
 
--- a line that says a step isn't too long
+-- a line that is a step isn't too long
 short_line : (line : List ℕ) (t : Bool) (next : Result (List (List ℕ)) Why) (f : List (List ℕ) → Result (Option Step) Why) (step : Option Step)
     → ((ensure t why.Long >> next) >>= f) ≡ Ok step → t ≡ true
 short_line line true next f step h = refl

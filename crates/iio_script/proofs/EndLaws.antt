@@ -32,7 +32,7 @@ sends_more (Some xs) before after sent kept rest h sends = by_before before h se
     by_before b is writes =
         subst (λ (o : Option (List ℕ)). IfSome o (λ ys. after ≡ Some (ys ++ sends.sent))) is writes ∙ ap Some (append_assoc xs sent sends.sent)
 
--- ---- what isn't told stays so
+-- ---- what isn't visible stays so
 
 pub silent_first : (left : Option (List ℕ)) → IfNone left (left ≡ None)
 silent_first None = refl

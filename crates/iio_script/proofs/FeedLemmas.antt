@@ -1,4 +1,4 @@
--- A feed's quoted text stands after its name, which has no quote in it.
+-- A feed's quoted text comes after its name, which has no quote in it.
 use Rattle.std.proofs.Common.{◌≡◌, ℕ, Bool, true, false, ◌==◌, nat_le, List, [], ◌∷◌, ◌++◌, length, take_while, None, Result, refl, sym, ap, ◌∙◌, subst, eqb-true, one-add}
 use Rattle.std.specs.List.{list_all}
 use Rattle.std.specs.Char.{is_ascii_alphabetic}

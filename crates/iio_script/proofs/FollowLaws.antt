@@ -1,4 +1,4 @@
--- What a reader that follows an input shows of it.
+-- What a reader that goes through an input shows of it.
 use Rattle.std.proofs.Common.{◌≡◌, ◌≢◌, ℕ, suc, min, ◌+◌, ◌-◌, ◌<◌, ◌≤◌, Bool, true, false, List, [], ◌∷◌, ◌++◌, length, take, drop, Option, Some, refl, sym, ap, ◌∙◌, inl, inr, arith, subst, append_assoc, append-nil}
 use Rattle.std.proofs.Math.Seq.{take-append_seam, drop-append_seam}
 use Rattle.std.proofs.lemmas.Bool.{false≢true}
@@ -27,7 +27,7 @@ follows_first input = record {
   end = λ ended. absurd (false≢true ended);
 }
 
--- what it shows by whether its last line was given
+-- what it shows, by whether its last line was given
 pub by_over : (P : Type 0) (input : List ℕ) (front : List (List ℕ)) (h : Hand) (left : Option (List ℕ)) → (h.over ≡ false → FollowsFront input front h left → P)
     → (h.over ≡ true → FollowsAll input front left → P) → Follows input front h left → P
 by_over P input front h left going over follows = cases h.over refl follows
@@ -49,7 +49,7 @@ next_line input front h left is (inr has) follows =
     let all : FollowsAll input (front ++ line_of h ∷ []) left = last_front input front h left is.plain has (going_of input front h left has.going follows) in
     record { more = []; parts = all.lines ∙ sym (append-nil (front ++ line_of h ∷ [])) }
 
--- the lines that were given are the first that are looked at
+-- the lines that were given are the first of the looked-at lines
 pub follows_begin : (input : List ℕ) (front : List (List ℕ)) (h : Hand) (left : Option (List ℕ)) → IsHand h → Follows input front h left
     → Begins front (scanned_lines input)
 follows_begin input front h left is follows =
@@ -58,7 +58,7 @@ follows_begin input front h left is follows =
     (scanned_begin goes.bytes (h.bytes ++ goes.rest) front goes.front_is (omega (arith, goes.given, is.given))))
     (λ over all. record { more = []; parts = all.lines ∙ sym (append-nil front) }) follows
 
--- none is left
+-- no line is left
 pub no_line : (input : List ℕ) (front : List (List ℕ)) (h : Hand) (left : Option (List ℕ)) → IsHand h → IsDone h → Follows input front h left
     → (scanned_lines input ≡ front) × (is_overlong input ≡ false) × (left ≡ Some []) × (length input ≤ ended_size front) × (lines_of input ≡ front)
 no_line input front h left is done follows =
@@ -85,7 +85,7 @@ no_line input front h left is done follows =
           ap lines_of (parts ∙ sym (append-nil goes.bytes)) ∙ goes.front_is.lines [] ∙ append-nil front,
         )
 
--- no further one can be told
+-- no further line is certain
 pub cut_line : (input : List ℕ) (front : List (List ℕ)) (h : Hand) (left : Option (List ℕ)) → IsHand h → IsCut h → Follows input front h left
     → (scanned_lines input ≡ front) × (is_overlong input ≡ true)
 cut_line input front h left is cut follows =
@@ -103,7 +103,7 @@ cut_line input front h left is cut follows =
       grind (arith, nat_tests, over),
     )
 
--- the next one is too long
+-- the next line is too long
 pub long_line : (input : List ℕ) (front : List (List ℕ)) (h : Hand) (left : Option (List ℕ)) → IsHand h → IsLong h → Follows input front h left
     → LongBehind front (scanned_lines input)
 long_line input front h left is long follows =
@@ -158,7 +158,7 @@ takes_at_most input front h left is follows =
       rest = all.none_left ∙ ap Some (sym (drop_all (length input) input (omega arith)));
     }) follows
 
--- ---- how far after the line that fails
+-- ---- how much was taken after the line that fails
 
 until_front : (front : List (List ℕ)) (line : List ℕ) (more : List (List ℕ))
     → bytes_until (suc (length front)) (front ++ line ∷ more) ≡ ended_size front + (min (length line) MAX_LINE_BYTES + 1)
@@ -169,7 +169,7 @@ until_end : (front : List (List ℕ)) → bytes_until (suc (length front)) front
 until_end [] = refl
 until_end (l ∷ ls) = omega (arith, until_end ls)
 
--- at a line, whose bytes in hand are at least these
+-- at a line of which at least these bytes are in hand
 near_line : (input : List ℕ) (front : List (List ℕ)) (h : Hand) (left : Option (List ℕ)) (line : List ℕ) (more : List (List ℕ)) (number : ℕ) → IsHand h
     → FollowsFront input front h left
     → lines_of input ≡ front ++ line ∷ more → length (h.bytes) ≤ min (length line) MAX_LINE_BYTES + 1 + piece_size → number ≡ length front + 1
@@ -233,7 +233,7 @@ near_end input front h left number is done follows at =
       rest = none.2 ∙ ap Some (sym (drop_all (length input) input (omega arith)));
     }
 
--- what was found tells where the line of the next number fails
+-- what was found shows where the line with the next number fails
 pub near : (input : List ℕ) (front : List (List ℕ)) (h : Hand) (left : Option (List ℕ)) (number : ℕ) (found : Found) → IsHand h → Shows found h → found ≢ Cut
     → Follows input front h left
     → number ≡ length front + 1 → TakesNear number input left

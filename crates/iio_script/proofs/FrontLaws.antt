@@ -1,4 +1,4 @@
--- The lines that LF ends in a front part of a text.
+-- The lines that end in an LF within a front part of a text.
 use Rattle.std.proofs.Common.{◌≡◌, ℕ, zero, suc, ◌+◌, ◌-◌, ◌≤◌, Bool, true, false, cond, List, [], ◌∷◌, ◌++◌, length, take, drop, refl, ap, ◌∙◌, arith}
 use Rattle.std.proofs.Math.Seq.{take-add, take-append-add}
 use Rattle.std.proofs.lemmas.Bool.{or_left}
@@ -7,18 +7,18 @@ use Rattle.std.proofs.lemmas.List.Folds.{list_any-append}
 use Rattle.std.specs.List.{list_any}
 use Rattle.iio_text.specs.Lines.{is_line_end, onto_line, lines_of}
 
--- how many LFs a text has
+-- the number of LFs in a text
 abbrev pub end_count : List ℕ → ℕ
 end_count [] = 0
 end_count (b ∷ bs) = cond (is_line_end b) (suc (end_count bs)) (end_count bs)
 
--- the lines of a text that LF ends
+-- the lines of a text that end in an LF
 abbrev pub ended_lines : List ℕ → List (List ℕ)
 ended_lines text = take (end_count text) (lines_of text)
 
 -- ---- a text with more after it
 
--- a byte on the first line of lines that begin with others
+-- a byte put before the first line, if the lines begin with others
 onto_front : (b n : ℕ) (lines rest : List (List ℕ)) → n ≤ length lines
     → (more : List (List ℕ)) × (onto_line b (take n lines ++ rest) ≡ take n (onto_line b lines) ++ more)
 onto_front b zero [] rest few = (onto_line b rest, refl)
@@ -46,7 +46,7 @@ end_count_few (b ∷ bs) = few_step (is_line_end b) b (end_count bs) (lines_of b
 pub length-ended_lines : (text : List ℕ) → length (ended_lines text) ≡ end_count text
 length-ended_lines text = length-take-le (end_count text) (lines_of text) (end_count_few text)
 
--- the lines of a text begin with those that LF ends in a front part
+-- the lines of a text begin with those that end in an LF within a front part
 pub lines_of-front : (text more : List ℕ) → (rest : List (List ℕ)) × (lines_of (text ++ more) ≡ ended_lines text ++ rest)
 lines_of-front [] more = (lines_of more, refl)
 lines_of-front (b ∷ bs) more =
@@ -61,7 +61,7 @@ pub end_count-append : (text more : List ℕ) → end_count (text ++ more) ≡ e
 end_count-append [] more = omega arith
 end_count-append (b ∷ bs) more = count_step (is_line_end b) (end_count (bs ++ more)) (end_count bs) (end_count more) (end_count-append bs more)
 
--- and so do the lines that LF ends in it
+-- .. and so do its lines that end in an LF
 pub ended_lines-front : (text more : List ℕ) → (rest : List (List ℕ)) × (ended_lines (text ++ more) ≡ ended_lines text ++ rest)
 ended_lines-front text more =
     let front = lines_of-front text more in

@@ -1,4 +1,4 @@
--- What a reader has in hand, once it has looked on, and once it has taken a piece more.
+-- What a reader has in hand after it has looked on, and after it has taken one more piece.
 use Rattle.std.proofs.Common.{◌≡◌, ℕ, zero, suc, ◌+◌, ◌<◌, ◌≤◌, Bool, true, false, List, [], ◌∷◌, ◌++◌, length, take, drop, get_or, Option, Some, None, IfSome, nat_eq, refl, sym, ap, ◌∙◌, inl, inr, arith, subst, append_assoc, append-nil, eqb-true, get_or-drop}
 use Rattle.std.proofs.Math.Seq.{take-add}
 use Rattle.std.proofs.lemmas.Bool.{false_from_ne_true}
@@ -12,7 +12,7 @@ use Rattle.iio_script.specs.LineReader.{Follows, FollowsAll, FollowsBy, FollowsF
 use Rattle.iio_script.proofs.LineLaws.{ended_size-append, front_more, lines_last, plain_append}
 use Rattle.iio_script.proofs.ScannedLaws.{scanned_last}
 
--- before the first byte
+-- before the first byte was read
 pub hand_first : IsHand empty_hand
 hand_first = record { looked = omega arith; plain = refl; near = omega arith; few = omega arith; given = omega arith; within = omega arith }
 
@@ -74,7 +74,7 @@ pub of_going : (input : List ℕ) (front : List (List ℕ)) (h : Hand) (left : O
     → Follows input front h left
 of_going input front h left going goes = subst (λ (over : Bool). FollowsBy over input front h left) (sym going) goes
 
--- ---- past a line
+-- ---- after a line
 
 -- the bytes in hand up to an LF
 ended_at : (text : List ℕ) (n : ℕ) → n < length text → get_or text n 0 ≡ 10 → (take n text ++ 10 ∷ []) ++ drop (n + 1) text ≡ text
@@ -107,14 +107,14 @@ passed_front input front h left plain at goes = record {
   end = goes.end;
 }
 
--- LF ends it
+-- an LF ends the line
 pub passed_ended : (input : List ℕ) (front : List (List ℕ)) (h : Hand) (left : Option (List ℕ)) → IsHand h → HasEnded h → Follows input front h left
     → Follows input (front ++ line_of h ∷ []) (past h) left
 passed_ended input front h left is has follows =
     of_going input (front ++ line_of h ∷ []) (past h) left has.going
     (passed_front input front h left is.plain has.stands (going_of input front h left has.going follows))
 
--- the input's end ends it
+-- the line ends with the input
 pub last_front : (input : List ℕ) (front : List (List ℕ)) (h : Hand) (left : Option (List ℕ)) → IsPlain (line_of h) → HasLast h
     → FollowsFront input front h left
     → FollowsAll input (front ++ line_of h ∷ []) left
@@ -143,7 +143,7 @@ passed_last input front h h' left is has over follows =
     subst (λ (o : Bool). FollowsBy o input (front ++ line_of h ∷ []) h' left) (sym over)
     (last_front input front h left is.plain has (going_of input front h left has.going follows))
 
--- whichever
+-- in both cases
 pub passed : (input : List ℕ) (front : List (List ℕ)) (h h' : Hand) (left : Option (List ℕ)) → IsHand h → HasLine h
     → (h.looked < length h.bytes → h' ≡ past h) → (length h.bytes ≤ h.looked → h'.over ≡ true) → Follows input front h left
     → Follows input (front ++ line_of h ∷ []) h' left
@@ -151,7 +151,7 @@ passed input front h h' left is (inl has) ended last follows =
     subst (λ (x : Hand). Follows input (front ++ line_of h ∷ []) x left) (sym (ended has.stands.some)) (passed_ended input front h left is has follows)
 passed input front h h' left is (inr has) ended last follows = passed_last input front h h' left is has (last (omega (arith, has.all))) follows
 
--- ---- a piece more
+-- ---- one more piece
 
 drop_none : (n : ℕ) → drop {A = ℕ} n [] ≡ []
 drop_none zero = refl
@@ -181,7 +181,7 @@ filled input front h left left' bytes' n going read follows =
     (filled_front input front h left left' bytes' n goes
     (subst (λ (l : Option (List ℕ)). IfSome l (λ xs. ReadsPiece xs h.bytes bytes' n left')) goes.left_is read))
 
--- after bytes that were given and are still there
+-- after bytes that were given and are still in memory
 pub piece_behind : (before after : List ℕ) (begin n : ℕ) (left left' : Option (List ℕ)) → begin ≤ length before
     → IfSome left (λ xs. ReadsPiece xs before after n left')
     → IfSome left (λ xs. ReadsPiece xs (drop begin before) (drop begin after) n left')

@@ -35,13 +35,13 @@ numbered_step desc names n line lines step said kept = rw (said, kept, numbered_
 
 -- ---- a step
 
--- what is kept of a text with a step's lines
+-- what is kept of a text together with a step's lines
 kept_part : (others : Bool) (text lines : List ℕ) → text ++ cond others [] lines ≡ take (cond others (length text) (length (text ++ lines))) (text ++ lines)
 kept_part true text lines = append-nil text ∙ sym (take-append_seam text lines)
 kept_part false text lines = sym (take_all (length (text ++ lines)) (text ++ lines) (omega arith))
 
 module _ {X : Type 0} {V : X → Type 0} (driver : Plug X V → Driver) where
-  -- after an offence a step is only made
+  -- after an offence a step is only performed
   pub step_made : KeptGoesOn
       → (s : Setup) (a : List ℕ) (h : List Event) (n : ℕ) (t : Step) (offence : Option ℕ) (b : Bool) (text text' : List ℕ) (x' : System X V)
       → b ≡ is_some offence → b ≡ true → StandsFor driver s (with_step s h t) x' → KeepsStep driver s a h n t offence offence text text' x'
@@ -67,7 +67,7 @@ module _ {X : Type 0} {V : X → Type 0} (driver : Plug X V → Driver) where
         kept = λ ts ending. (law s a ending).2 text h (record { number = n; step = t }) ts offends text' (with_step s h t);
       }
 
-  -- a step that keeps to them
+  -- a step that meets the rules
   pub step_kept : KeptGoesOn
       → (s : Setup) (a : List ℕ) (h : List Event) (n : ℕ) (t : Step) (offence : Option ℕ) (b meets : Bool) (text whole text' : List ℕ) (count : ℕ)
       (x' : System X V)
@@ -90,7 +90,7 @@ module _ {X : Type 0} {V : X → Type 0} (driver : Plug X V → Driver) where
             (law s a ending).1 text h (record { number = n; step = t }) ts still ∙ ap (λ (w : List ℕ). kept_on s a None w (with_step s h t) ts ending) left;
       }
 
-  -- ---- a run that has come to a line
+  -- ---- a run that has reached a line
 
   pub keeps_first : KeptGoesOn → (s : Setup) (a : List ℕ) (x : System X V) (first : ℕ) → names_by x ≡ [] → StandsFor driver s [] x
       → KeepsOn driver s a x None [] first first []
@@ -122,7 +122,7 @@ module _ {X : Type 0} {V : X → Type 0} (driver : Plug X V → Driver) where
         ∙ sym (ap (λ (ls : List (List ℕ)). kept_of_lines s a ending first ls) (append_assoc given (line ∷ []) lines));
   }
 
-  -- a step that was made
+  -- a step that was performed
   pub keeps_more : (s : Setup) (a : List ℕ) (x x' : System X V) (offence offence' : Option ℕ) (text text' : List ℕ) (first n : ℕ) (given : List (List ℕ))
       (line : List ℕ) (step : Step)
       → step_of s.desc line ≡ Ok (Some step) → keeps_names (names_by x) (Some step) ≡ true

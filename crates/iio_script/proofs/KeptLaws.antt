@@ -1,4 +1,4 @@
--- The lines of an input that is kept of, as a reader gives them; and its description.
+-- The lines of an input of which something is kept, as a reader gives them; and its description.
 use Rattle.std.proofs.Common.{◌≡◌, ℕ, ◌+◌, Bool, true, false, List, [], ◌∷◌, ◌++◌, length, Option, Some, None, Result, Ok, Err, IfOk, IfSome, refl, sym, ap, ◌∙◌, subst, append_assoc, append-nil}
 use Rattle.iio_io.specs.Bytes.{TakesAtMost}
 use Rattle.iio_text.specs.declared.refusals.Why.{Why}
@@ -25,7 +25,7 @@ use Rattle.iio_script.proofs.OutcomeLaws.{takes_of}
 use Rattle.iio_script.proofs.StepLaws.{same_rest}
 
 module _ {X : Type 0} {V : X → Type 0} (driver : Plug X V → Driver) where
-  -- the lines `given` were played and kept of; the reader has gone on over them
+  -- the lines `given` were played, and this was kept of them; the reader has gone on over them
   pub record KeptSoFar (s : Setup) (a : List ℕ) (x : System X V) (offence : Option ℕ) (text : List ℕ) (first n : ℕ) (h h' : Hand)
       (left left' : Option (List ℕ)) : Type 0 where
     pub given : List (List ℕ)
@@ -52,7 +52,7 @@ module _ {X : Type 0} {V : X → Type 0} (driver : Plug X V → Driver) where
     follows = λ input front follows. finds input (front ++ so.given) (so.follows input front follows);
   }
 
-  -- and played
+  -- .. and was played
   pub so_far_played : (s : Setup) (a : List ℕ) (x x' : System X V) (offence offence' : Option ℕ) (text text' line : List ℕ) (first n : ℕ) (h h1 h2 : Hand)
       (left left' : Option (List ℕ))
       → ((input : List ℕ) (front : List (List ℕ)) (l : Option (List ℕ)) → Follows input front h1 l → Follows input (front ++ line_of h1 ∷ []) h2 l)
@@ -67,12 +67,12 @@ module _ {X : Type 0} {V : X → Type 0} (driver : Plug X V → Driver) where
         (passes input (front ++ so.given) left' (so.follows input front follows));
   }
 
-  -- ---- the end: what is kept of all lines that are looked at
+  -- ---- the end: what is kept of all looked-at lines
 
   abbrev Kept : Setup → List ℕ → (first : ℕ) (input : List ℕ) (more : List (List ℕ)) → Result (List ℕ) Ending → Type 0
   Kept s a first input more kept = kept_of_lines s a (last_ending (is_overlong input)) first more ≡ kept
 
-  -- the same of the lines that were given and those after them
+  -- the same, by the lines that were given and those after them
   kept_by : (s : Setup) (a : List ℕ) (first : ℕ) (front given more rest : List (List ℕ)) (input : List ℕ) (over : Bool) (kept : Result (List ℕ) Ending)
       → scanned_lines input ≡ front ++ more → scanned_lines input ≡ front ++ (given ++ rest) → is_overlong input ≡ over
       → kept_of_lines s a (last_ending over) first (given ++ rest) ≡ kept → Kept s a first input more kept
@@ -164,7 +164,7 @@ kept_alone a drivers count desc input many alone =
     kept_head a drivers count input (Described desc alone.next []) many alone.head
     ∙ ap (λ (o : Bool). kept_of_head a drivers o (Described desc alone.next [])) alone.short
 
--- ---- where the source tells
+-- ---- if the source is visible
 
 module _ (a : List ℕ) (drivers : List Driver) (count : ℕ) where
   pub told_alone : (desc : Description) (text : List ℕ) (left : Option (List ℕ)) → count ≡ length drivers → text ≡ []
@@ -190,7 +190,7 @@ takes_kept None left' takes = tt
 takes_kept (Some input) left' takes = takes_of input left' takes
 
 module _ {B E : Type 0} (bytes : B → Result (List ℕ) Ending) (a : List ℕ) (drivers : List Driver) (count : ℕ) (desc : Description) (first : ℕ) (h : Hand) where
-  -- what a script kept, whatever lines it began after
+  -- what a script kept, whatever lines came before it
   abbrev pub KeepsAll : (input : List ℕ) (left left' : Option (List ℕ)) → Result B E → Type 0
   KeepsAll input left left' r =
       (front more : List (List ℕ)) → Follows input front h left → scanned_lines input ≡ front ++ more

@@ -1,4 +1,4 @@
--- The lines of a text that is read on: its front, its last line, and what its end cuts.
+-- The lines of a text that is read further: its front, its last line, and the line that its end cuts off.
 use Rattle.std.proofs.Common.{◌≡◌, ℕ, ◌+◌, ◌<◌, Bool, true, false, ◌||◌, ◌⊎◌, cond, List, [], ◌∷◌, ◌++◌, length, take, drop, reverse, refl, sym, ap, ◌∙◌, inl, inr, arith, subst, append_assoc}
 use Rattle.std.proofs.Math.Seq.{drop-append-add}
 use Rattle.std.proofs.lemmas.Bool.{false≢true}
@@ -27,14 +27,14 @@ plain_take n a p = (plain_parts (take n a) (drop n a) (subst IsPlain (sym (take-
 
 -- ---- its lines
 
--- a line that LF ends
+-- a line that ends in an LF
 pub lines_ended : (line more : List ℕ) → IsPlain line → lines_of (line ++ 10 ∷ more) ≡ line ∷ lines_of more
 lines_ended [] more plain = refl
 lines_ended (b ∷ bs) more plain =
     let parts = plain_head (is_line_end b) (list_any is_line_end bs) plain in
     rw parts.0 (ap (onto_line b) (lines_ended bs more parts.1))
 
--- a line that the text's end ends
+-- a line that ends with the text
 pub lines_last : (line : List ℕ) → IsPlain line → 0 < length line → lines_of line ≡ line ∷ []
 lines_last [] plain some = absurd (omega arith)
 lines_last (b ∷ []) plain some = rw (plain_head (is_line_end b) false plain).0 refl
@@ -42,7 +42,7 @@ lines_last (b ∷ c ∷ cs) plain some =
     let parts = plain_head (is_line_end b) (list_any is_line_end (c ∷ cs)) plain in
     rw parts.0 (ap (onto_line b) (lines_last (c ∷ cs) parts.1 (omega arith)))
 
--- the first line begins so
+-- the first line begins with this
 pub record BeginsWith (front : List ℕ) (lines : List (List ℕ)) : Type 0 where
   pub rest : List ℕ
   pub more : List (List ℕ)

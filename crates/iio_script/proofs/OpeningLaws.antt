@@ -1,4 +1,4 @@
--- The description at the head of an input: what a reader's answers tell of it.
+-- The description at the head of an input: what a reader's answers show of it.
 use Rattle.std.proofs.Common.{◌≡◌, ℕ, ◌+◌, Bool, true, false, cond, List, [], ◌∷◌, ◌++◌, length, Option, None, Some, IfSome, Result, Ok, Err, refl, sym, ap, ◌∙◌, arith, subst, append_assoc, append-nil, length-append}
 use Rattle.std.specs.Prelude.{IfOk, IsOk}
 use Rattle.iio_io.specs.declared.whole.ReadEnd.{ReadEnd}
@@ -33,7 +33,7 @@ pub ends_at : (overlong : Bool) (reader : Reader) (n : ℕ) (line : List ℕ) (l
 ends_at overlong (Ok reading) n line lines ends = rw ends refl
 ends_at overlong (Err fault) n line lines ends = refl
 
--- one line more
+-- one more line
 pub goes_on : (overlong : Bool) (reader : Reader) (n : ℕ) (line : List ℕ) (lines : List (List ℕ)) → is_end line ≡ false
     → head_from overlong reader n (line ∷ lines) ≡ head_from overlong (after_line reader line) (n + 1) lines
 goes_on overlong (Ok reading) n line lines other = rw other refl
@@ -89,7 +89,7 @@ line_number (Ok reading) text m why ok refused = by_line (line.after_line readin
     by_line (Ok desc) is = sym (ap (number_of (reading.lines + 1)) refused) ∙ rw is refl
     by_line (Err w) is = sym (ap (number_of (reading.lines + 1)) refused) ∙ rw is refl
 
--- one line more counts
+-- one more line is counted
 pub line_counts : (reader : Reader) (text : List ℕ) → IsOk reader → IsOk (after_line reader text) → line_count (after_line reader text) ≡ line_count reader + 1
 line_counts (Err fault) text ok read = absurd (false≢true ok)
 line_counts (Ok reading) text ok read = by_line (line.after_line reading.desc text) refl read
@@ -120,7 +120,7 @@ reads_more drivers reader number front line other reads = record {
   ends = list_any-append is_end front (line ∷ []) ∙ rw (reads.ends, other) refl;
 }
 
--- a reader that has come to that line of an input
+-- a reader that has reached that line of an input
 pub record OpensSoFar (drivers : ℕ) (reader : Reader) (number : ℕ) (h h' : Hand) (left left' : Option (List ℕ)) : Type 0 where
   pub front : List (List ℕ)
   pub reads : ReadsFront drivers reader number front
@@ -165,7 +165,7 @@ opens_taken drivers reader number h h' (Some input) left' empty is so =
     takes_blocks input so.front h' left' is so.reads.ends
     (so.follows input (subst (λ (x : Hand). Follows input [] x (Some input)) (sym empty) (follows_first input)))
 
--- a fact of what is followed from the input's start
+-- a fact about an input, followed from its start
 followed : (P : List ℕ → Type 0) (drivers : ℕ) (reader : Reader) (number : ℕ) (h h' : Hand) (left left' : Option (List ℕ)) → h ≡ empty_hand
     → (so : OpensSoFar drivers reader number h h' left left')
     → ((input : List ℕ) → Follows input so.front h' left' → P input) → IfSome left P
@@ -173,7 +173,7 @@ followed P drivers reader number h h' None left' empty so each = tt
 followed P drivers reader number h h' (Some input) left' empty so each =
     each input (so.follows input (subst (λ (x : Hand). Follows input [] x (Some input)) (sym empty) (follows_first input)))
 
--- the head of an input that goes on so
+-- the head of an input that goes on like this
 head_at : (drivers : ℕ) (reader : Reader) (number : ℕ) (front rest : List (List ℕ)) (input : List ℕ) (overlong : Bool) → ReadsFront drivers reader number front
     → scanned_lines input ≡ front ++ rest
     → is_overlong input ≡ overlong → head_of drivers input ≡ head_from overlong reader number rest
@@ -219,7 +219,7 @@ opens_cut drivers reader number h h' left left' empty is cut ok so =
     (λ input follows. let none = cut_line input so.front h' left' is cut follows in
     head_at drivers reader number so.front [] input true so.reads (none.0 ∙ sym (append-nil so.front)) none.1 ∙ cut_after reader number ok)
 
--- by what the reader answers
+-- by the reader's answer
 pub opens_line : (drivers : ℕ) (reader : Reader) (number m : ℕ) (why : Why) (line : List ℕ) (h h' : Hand) (left left' : Option (List ℕ)) → h ≡ empty_hand
     → IsHand h' → HasLine h' → IsOk reader
     → line_count reader + 1 ≡ number → line ≡ line_of h' → is_end line ≡ false → after_line reader line ≡ Err (Line m why)
@@ -291,7 +291,7 @@ opens_at drivers reader number opening line h h1 h2 left left' empty is has same
     by_opening (Refused line why) input more front head heads follows next at ended close = record { head = head; near = close line at }
     by_opening read.Cut input more front head heads follows next at ended close = head
 
--- whatever the end answers
+-- by any answer at the end
 pub opens_end_by : (drivers : ℕ) (reader : Reader) (number : ℕ) (result : Result Opening ReadEnd) (h h' : Hand) (left left' : Option (List ℕ)) → h ≡ empty_hand
     → IsHand h' → IsDone h'
     → line_count reader + 1 ≡ number → IfOk result (λ opening. (next : ℕ) (more : List (List ℕ)) → told next more opening ≡ described next [] (finished reader))

@@ -35,7 +35,7 @@ takes_of input left takes = record { count = takes.count; within = takes.within;
 
 -- ---- what was written before a further piece was taken
 
--- nothing is printed before the description's end
+-- nothing is printed before the description ends
 nothing_before : (drivers : List Driver) (count : ℕ) (taken : List ℕ) → count ≡ length drivers
     → head_from true (new_reader count) 1 (lines_of (ended_part taken)) ≡ Cut
     → whole_lines_of drivers taken ≡ []
@@ -72,7 +72,7 @@ answers_script drivers count desc first front input text left left' many heads u
       ∙ ap (head_from true (new_reader count) 1) a.lines ∙ heads true a.given)));
 }
 
--- ---- what was printed is told by the outcome
+-- ---- the outcome says what was printed
 
 front_as : (one other : Outcome) (text : List ℕ) → one ≡ other → IsFrontOf one text → IsFrontOf other text
 front_as one other text same front = subst (λ (o : Outcome). IsFrontOf o text) same front
@@ -257,7 +257,7 @@ runs_nothing drivers None before = tt
 runs_nothing drivers (Some input) before =
     runs_none drivers (length drivers) input (Some input) before refl (takes_none input) (unended_none (length drivers) input)
 
--- ---- where the source tells
+-- ---- if the source is visible
 
 -- what follows of two facts of the input
 pub both_told : (P Q R : List ℕ → Type 0) (left : Option (List ℕ)) → ((input : List ℕ) → P input → Q input → R input) → IfSome left P → IfSome left Q
@@ -265,7 +265,7 @@ pub both_told : (P Q R : List ℕ → Type 0) (left : Option (List ℕ)) → ((i
 both_told P Q R None each p q = tt
 both_told P Q R (Some input) each p q = each input p q
 
--- or of three
+-- .. or of three
 pub all_told : (P Q R T : List ℕ → Type 0) (left : Option (List ℕ)) → ((input : List ℕ) → P input → Q input → R input → T input) → IfSome left P → IfSome left Q
     → IfSome left R → IfSome left T
 all_told P Q R T None each p q r = tt

@@ -130,7 +130,7 @@ same_position f xs ys name same =
     ∙ ap (λ (len : ℕ). cond (nat_lt (position_or_len (λ x. bytes_eq (f x) name) ys) len) (Some (position_or_len (λ x. bytes_eq (f x) name) ys)) None)
     (same_length f xs ys same)
 
--- ... of the names of heads
+-- .. of the names of heads
 names_both : (xs ys : List DeviceHead)
     → map (λ (h : DeviceHead). h.name) (xs ++ ys) ≡ map (λ (h : DeviceHead). h.name) xs ++ map (λ (h : DeviceHead). h.name) ys
 names_both [] ys = refl

@@ -62,7 +62,7 @@ same_fed one other name same =
     subst (λ (b : Bool). AreSame (cond (is_known one name) one (name ∷ one)) (cond b other (other ++ name ∷ []))) (same.known name)
     (by_known (is_known one name) one other name same)
 
--- once a step was made
+-- after a step
 pub same_after : (one other : List (List ℕ)) (step : Step) → AreSame one other → AreSame (names_after one (Some step)) (names_with other step)
 same_after one other (Feed name bytes) same = same_fed one other name same
 same_after one other (Fire trigger moment) same = same
@@ -95,7 +95,7 @@ pub is_over : (desc : Description) (ending : Ending) (names : List (List ℕ)) (
     → keeps_names names (Some step) ≡ false → script_from desc ending names n (line ∷ lines) ≡ record { steps = []; ending = Refused n Limit }
 is_over desc ending names n line lines step said over = rw (said, over, script_from) refl
 
--- ---- a run that has come to a line
+-- ---- a run that has reached a line
 
 module _ {X : Type 0} {V : X → Type 0} (driver : Plug X V → Driver) where
   pub plays_first : (s : Setup) (x : System X V) (first : ℕ) → names_by x ≡ [] → StandsFor driver s [] x → Plays driver s x [] first first []
@@ -130,7 +130,7 @@ module _ {X : Type 0} {V : X → Type 0} (driver : Plug X V → Driver) where
         ∙ sym (ap (λ ls. with_steps s [] (script_from s.desc ending [] first ls).steps) (append_assoc given (line ∷ []) lines));
   }
 
-  -- a step that was made
+  -- a step that was performed
   pub plays_on : (s : Setup) (x x' : System X V) (text after : List ℕ) (first n : ℕ) (given : List (List ℕ)) (line : List ℕ) (step : Step)
       → step_of s.desc line ≡ Ok (Some step) → keeps_names (names_by x) (Some step) ≡ true
       → ((h : List Event) → StandsFor driver s h x → (after ≡ text ++ lines_of_step s h step) × StandsFor driver s (with_step s h step) x')
@@ -204,14 +204,14 @@ module _ {X : Type 0} {V : X → Type 0} (driver : Plug X V → Driver) where
   plays_long s x text after first n given line lines ending status long plays f =
       plays_refused s x text after first n given line lines Long ending status (rw long refl) plays f
 
-  -- and stands for the history of its steps
+  -- .. and the system stands for the history of its steps
   pub plays_done : (s : Setup) (x : System X V) (text : List ℕ) (first n : ℕ) (given : List (List ℕ)) (ending : Ending) → Plays driver s x text first n given
       → StandsFor driver s (with_steps s [] (script_from s.desc ending [] first given).steps) x
   plays_done s x text first n given ending plays =
       subst (λ (h : List Event). StandsFor driver s h x)
       (plays.history ending [] ∙ ap (λ ls. with_steps s [] (script_from s.desc ending [] first ls).steps) (append-nil given)) plays.stands
 
-  -- what was printed is a front part of what any script prints that goes on so
+  -- what was printed is a front part of what any script prints that goes on like this
   pub plays_front : (s : Setup) (x : System X V) (text : List ℕ) (first n : ℕ) (given lines : List (List ℕ)) (ending : Ending)
       → Plays driver s x text first n given
       → IsFrontOf (outcome_of_script s (script_from s.desc ending [] first (given ++ lines))) text
@@ -220,7 +220,7 @@ module _ {X : Type 0} {V : X → Type 0} (driver : Plug X V → Driver) where
     parts = sym (plays.printed ending lines);
   }
 
-  -- and all that its lines print
+  -- .. and it is all that the script's lines print
   pub plays_all : (s : Setup) (x : System X V) (text : List ℕ) (first n : ℕ) (given : List (List ℕ)) → Plays driver s x text first n given
       → text ≡ script_text s (script_from s.desc Finished [] first given)
   plays_all s x text first n given plays =

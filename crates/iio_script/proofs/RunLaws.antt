@@ -84,7 +84,7 @@ script_fault s first front outcome input Usage sent kept left over f = absurd ov
 script_fault s first front outcome input ReadFault sent kept left over f = absurd over
 script_fault s first front outcome input TooLong sent kept left over f = absurd over
 
--- ---- an end of which nothing was printed before
+-- ---- an end before which nothing was printed
 
 pub nothing_sent : (before : Option (List ℕ)) → WritesText before before []
 nothing_sent None = tt
@@ -117,7 +117,7 @@ end_failed outcome status fault kept before after f is (rest, sends) = (
 pub end_none : (outcome : Outcome) (before : Option (List ℕ)) → (text : List ℕ) × WritesText before before text × Prints outcome Memory text
 end_none outcome before = ([], nothing_sent before, record { rest = outcome.printed; parts = refl })
 
--- ---- a script with what it took
+-- ---- a script, and how much it took
 
 abbrev Whole : Setup → (first : ℕ) (front : List (List ℕ)) → Outcome → (input : List ℕ) → Status → (begin left before after : Option (List ℕ)) → Type 0
 Whole s first front outcome input result begin left before after =

@@ -1,4 +1,4 @@
--- The lines of an input that are looked at, from a front of it on.
+-- The looked-at lines of an input, after a front of it.
 use Rattle.std.proofs.Common.{◌≡◌, ℕ, ◌+◌, ◌-◌, ◌<◌, ◌≤◌, Bool, true, false, ◌⊎◌, cond, List, [], ◌∷◌, ◌++◌, length, take, drop, nat_lt, refl, sym, ap, ◌∙◌, inl, inr, arith, subst, append_assoc, append-nil}
 use Rattle.std.proofs.Math.Seq.{take-append-add}
 use Rattle.std.proofs.lemmas.Bool.{cases_lt}
@@ -18,23 +18,23 @@ looked : (input : List ℕ) → lines_within input_limit input ≡ scanned_lines
 unfolding lines_within
 looked input = refl
 
--- they begin with a front's
+-- they begin with the lines of a front
 pub record Begins (front lines : List (List ℕ)) : Type 0 where
   pub more : List (List ℕ)
   pub parts : lines ≡ front ++ more
 
--- a front of the limit's part
+-- a front within the limit
 take_front : (limit : ℕ) (bytes rest : List ℕ) → length bytes ≤ limit → take limit (bytes ++ rest) ≡ bytes ++ take (limit - length bytes) rest
 take_front limit bytes rest few =
     let sum : limit ≡ length bytes + (limit - length bytes) = omega (arith, few) in
     ap (λ n. take n (bytes ++ rest)) sum ∙ take-append-add bytes rest (limit - length bytes)
 
--- an input that isn't longer
+-- an input that isn't longer than the limit
 all_within : (limit : ℕ) (input : List ℕ) → length input ≤ limit → lines_within limit input ≡ lines_of input
 unfolding lines_within
 all_within limit input few = let short : nat_lt limit (length input) ≡ false = grind (arith, nat_tests, few) in rw short refl
 
--- a longer one
+-- a longer input
 part_within : (limit : ℕ) (bytes rest : List ℕ) (front : List (List ℕ)) → IsFront bytes front → length bytes ≤ limit → limit < length (bytes ++ rest)
     → lines_within limit (bytes ++ rest) ≡ front ++ lines_of (told_part (take (limit - length bytes) rest))
 unfolding lines_within
@@ -50,13 +50,13 @@ begins_within limit bytes rest front is few = elim (cases_lt limit (length (byte
   | inr short ↦ record { more = lines_of rest; parts = all_within limit (bytes ++ rest) short ∙ is.lines rest }
 ]
 
--- the last line, and none
+-- the last line, and no line
 last_within : (limit : ℕ) (bytes line : List ℕ) (front : List (List ℕ)) → IsFront bytes front → IsPlain line → 0 < length line → length (bytes ++ line) ≤ limit
     → lines_within limit (bytes ++ line) ≡ front ++ line ∷ []
 last_within limit bytes line front is plain some short =
     all_within limit (bytes ++ line) short ∙ is.lines line ∙ ap (λ ls. front ++ ls) (lines_last line plain some)
 
--- no further line can be told
+-- no further line is certain
 cut_within : (limit : ℕ) (bytes rest : List ℕ) (front : List (List ℕ)) → IsFront bytes front → length bytes ≤ limit → limit < length (bytes ++ rest)
     → IsPlain (take (limit - length bytes) rest) → limit ≤ length bytes + MAX_LINE_BYTES → lines_within limit (bytes ++ rest) ≡ front
 cut_within limit bytes rest front is few over plain short =
@@ -84,7 +84,7 @@ begins_long front lines begins long = record {
 long_lines : (front more : List ℕ) → IsPlain front → MAX_LINE_BYTES < length front → BeginsLong (lines_of (front ++ more))
 long_lines front more plain long = begins_long front (lines_of (front ++ more)) (lines_begin front more plain (omega (arith, long))) long
 
--- also where the text goes on
+-- .. even if the text goes on
 long_ended : (front more : List ℕ) → IsPlain front → MAX_LINE_BYTES < length front → fits_line (cut_line (front ++ more)) ≡ true → (IsPlain more) ⊎ Parted more
     → BeginsLong (lines_of (ended_part (front ++ more)))
 long_ended front more plain long fits (inl none) =
@@ -106,7 +106,7 @@ long_told front more plain long = by_fits (fits_line (cut_line (front ++ more)))
     by_fits true fits = long_ended front more plain long fits (parted more)
     by_fits false fits = long_lines front more plain long
 
--- after a front
+-- the same after a front
 pub record LongBehind (front : List (List ℕ)) (lines : List (List ℕ)) : Type 0 where
   pub line : List ℕ
   pub more : List (List ℕ)
@@ -136,7 +136,7 @@ long_within limit bytes line rest front is plain long few = elim (cases_lt limit
       (all_within limit (bytes ++ (line ++ rest)) short ∙ is.lines (line ++ rest)) (long_lines line rest plain long)
 ]
 
--- ---- the same of the input's limit
+-- ---- the same for the input's limit
 
 pub scanned_begin : (bytes rest : List ℕ) (front : List (List ℕ)) → IsFront bytes front → length bytes ≤ input_limit
     → Begins front (scanned_lines (bytes ++ rest))

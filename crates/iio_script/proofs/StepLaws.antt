@@ -28,11 +28,11 @@ use Rattle.iio_script.proofs.PlayLaws.{behind_sent, plays_all, plays_done, plays
 pub same_rest : {A : Type 0} (front one other : List A) → front ++ one ≡ front ++ other → one ≡ other
 same_rest front one other same = sym (drop-append_seam front one) ∙ ap (drop (length front)) same ∙ drop-append_seam front other
 
--- the outcome of a script whose lines these are
+-- the outcome of a script with these lines
 abbrev script_outcome : Setup → (input : List ℕ) (first : ℕ) (lines : List (List ℕ)) → Outcome
 script_outcome s input first lines = outcome_of_script s (script_from s.desc (last_ending (is_overlong input)) [] first lines)
 
--- how it ends, with what it took
+-- how it ends, and how much it took
 abbrev Ended : Setup → (first : ℕ) (front more : List (List ℕ)) (input : List ℕ) → Result Status Status
     → (kept : List ℕ) (begin left written written' : Option (List ℕ)) → Type 0
 Ended s first front more input result kept begin left written written' =
@@ -40,7 +40,7 @@ Ended s first front more input result kept begin left written written' =
     × EndsSteps s first front (script_outcome s input first more) input result sent kept left
     × TakesAtMost input (input_limit + 1) left × AnswersScript s first front input sent begin left
 
--- a script that came to its end
+-- a script that has ended
 ended : (s : Setup) (first : ℕ) (front : List (List ℕ)) (outcome : Outcome) (input : List ℕ) (st : Status) (sent kept : List ℕ) (left : Option (List ℕ))
     → FinishesAt outcome st input (sent ++ kept) left → EndsSteps s first front outcome input (Ok st) sent kept left
 ended s first front outcome input status.Done sent kept left f = f
@@ -51,7 +51,7 @@ ended s first front outcome input status.WriteFault sent kept left f = f
 ended s first front outcome input status.Memory sent kept left f = f
 ended s first front outcome input status.TooLong sent kept left f = f
 
--- only a refusal says where it stands
+-- only a refusal says at which line it is
 near_for : (st : Status) (number : ℕ) (input : List ℕ) (left : Option (List ℕ)) → IsRefusedWith number st → TakesNear number input left → TakesFor st input left
 near_for status.Done number input left is near = tt
 near_for (status.Refused line why) number input left is near = subst (λ (n : ℕ). TakesNear n input left) (sym is) near
@@ -162,7 +162,7 @@ module _ {X : Type 0} {V : X → Type 0} (driver : Plug X V → Driver) where
 
   -- ---- the end
 
-  -- the lines given are those that are looked at, up to the next
+  -- the lines given are the looked-at ones, up to the next line
   given_of : (front given more rest : List (List ℕ)) (input : List ℕ) → scanned_lines input ≡ front ++ more → scanned_lines input ≡ (front ++ given) ++ rest
       → more ≡ given ++ rest
   given_of front given more rest input is begins = same_rest front more (given ++ rest) (sym is ∙ begins ∙ append_assoc front given rest)

@@ -15,7 +15,7 @@ use Rattle.iio_script.proofs.ToldLaws.{has_end-lines, has_end-take}
 use Rattle.iio_script.proofs.LineLaws.{ended_none}
 use Rattle.iio_script.proofs.FollowLaws.{by_over, taken_front}
 
--- among the first lines there is none where there is none among all
+-- if there is none among all lines, there is none among the first
 any_take : (p : List ℕ → Bool) (n : ℕ) (lines : List (List ℕ)) → list_any p lines ≡ false → list_any p (take n lines) ≡ false
 any_take p n lines none =
     (both (list_any p (take n lines)) (list_any p (drop n lines))
@@ -25,7 +25,7 @@ any_take p n lines none =
     both true b h = h
     both false b h = refl
 
--- the bytes up to those that were looked at
+-- the bytes up to where the reader has looked
 scanned_front : (input : List ℕ) (front : List (List ℕ)) (h : Hand) (left : Option (List ℕ)) → IsHand h → (goes : FollowsFront input front h left)
     → take (h.given + h.looked) input ≡ goes.bytes ++ line_of h
 scanned_front input front h left is goes =
@@ -38,7 +38,7 @@ scanned_front input front h left is goes =
     omega (arith, goes.given, length-append goes.bytes line, length-take-le h.looked h.bytes is.looked) in
     ap (λ n. take n input) size ∙ ap (take (length (goes.bytes ++ line))) parts ∙ take-append_seam (goes.bytes ++ line) (drop h.looked h.bytes ++ goes.rest)
 
--- whose whole lines are those that were given
+-- .. whose whole lines are those that were given
 pub scanned_given : (input : List ℕ) (front : List (List ℕ)) (h : Hand) (left : Option (List ℕ)) → IsHand h → FollowsFront input front h left
     → lines_of (ended_part (take (h.given + h.looked) input)) ≡ front
 scanned_given input front h left is goes =
@@ -51,7 +51,7 @@ none_ends : (input : List ℕ) (front : List (List ℕ)) (h : Hand) (left : Opti
     → has_end (take (h.given + h.looked) input) ≡ false
 none_ends input front h left is goes none = ap (list_any is_end) (scanned_given input front h left is goes) ∙ none
 
--- so a front part that has such a line is longer
+-- .. so a front part with such a line is longer
 pub takes_blocks : (input : List ℕ) (front : List (List ℕ)) (h : Hand) (left : Option (List ℕ)) → IsHand h → list_any is_end front ≡ false
     → Follows input front h left
     → TakesBlocks input left

@@ -1,4 +1,4 @@
--- What is counted in a text, from what its parts did.
+-- The counts of a text, from what its parts did.
 use Rattle.std.proofs.Common.{◌≡◌, ℕ, ◌+◌, Bool, false, List, [], ◌++◌, length, map, Option, Result, Ok, Err, refl, sym, ap, ◌∙◌, subst}
 use Rattle.iio_text.specs.declared.refusals.Why.{Why}
 use Rattle.iio_sensor.specs.Driver.{Driver}

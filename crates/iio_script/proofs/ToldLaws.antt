@@ -1,4 +1,4 @@
--- The lines of the part of a text that can be told.
+-- The lines of the part of a text whose lines are certain.
 use Rattle.std.proofs.Common.{◌≡◌, ℕ, suc, ◌≤◌, Bool, true, false, cond, List, [], ◌∷◌, ◌++◌, length, take, refl, sym, ap, ◌∙◌, arith, append-nil, eqb-true}
 use Rattle.std.specs.Prelude.{reverse}
 use Rattle.std.proofs.lemmas.List.{length-append, take_all, reverse-append, reverse-reverse}
@@ -13,7 +13,7 @@ none_of : (lines : List (List ℕ)) → length lines ≡ 0 → lines ≡ []
 none_of [] h = refl
 none_of (l ∷ ls) h = absurd (omega arith)
 
--- a byte more that is no LF ends no line
+-- one more byte that isn't an LF ends no line
 ended_lines-open : (text : List ℕ) (b : ℕ) → is_line_end b ≡ false → ended_lines (text ++ b ∷ []) ≡ ended_lines text
 ended_lines-open text b h =
     let front = ended_lines-front text (b ∷ []) in
@@ -30,7 +30,7 @@ ended_lines-open text b h =
     )) in
     front.1 ∙ ap (λ rest. ended_lines text ++ rest) none ∙ append-nil (ended_lines text)
 
--- an LF more ends them all
+-- with one more LF all lines end in an LF
 length_step : (t : Bool) (b n : ℕ) (lines : List (List ℕ)) → length lines ≡ suc n → length (cond t ([] ∷ lines) (onto_line b lines)) ≡ suc (cond t (suc n) n)
 length_step true b n lines h = ap suc h
 length_step false b n [] h = absurd (omega arith)
@@ -61,7 +61,7 @@ from_end (b ∷ bs) = from_step (is_line_end b) b bs refl (from_end bs)
 pub lines_of-ended_part : (text : List ℕ) → lines_of (ended_part text) ≡ ended_lines text
 lines_of-ended_part text = from_end (reverse text) ∙ ap ended_lines (reverse-reverse text)
 
--- ---- whether one of the lines that LF ends is the end of a description
+-- ---- whether one of the lines that end in an LF is the end of a description
 
 pub has_end-lines : (text : List ℕ) → has_end text ≡ list_any is_end (ended_lines text)
 has_end-lines text = ap (list_any is_end) (lines_of-ended_part text)

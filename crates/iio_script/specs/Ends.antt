@@ -1,4 +1,4 @@
--- How a run ends, and what it has written then. (This project's own.)
+-- How a run ends, and what it has written by then. (This project's own.)
 use Rattle.std.specs.Prelude.{◌≡◌, ℕ, ◌≤◌, List, ◌++◌, Option, Some, None, IfNone, IfSome}
 use Rattle.iio_base.specs.Faults.{Rose}
 use Rattle.iio_history.specs.Script.{Ending}
@@ -13,14 +13,14 @@ status_of ending.Finished = Done
 status_of (ending.Refused line why) = Refused line why
 status_of ending.TooLong = TooLong
 
--- the statuses of a run that came to its own end: none for a failed read or write, want of memory, or wrong words
+-- the statuses of a run that reached its own end: no failed read or write, no lack of memory, no wrong words
 abbrev pub IsEnd : Status → Type 0
 IsEnd Done = Unit {0}
 IsEnd (Refused line why) = Unit {0}
 IsEnd TooLong = Unit {0}
 IsEnd status = ⊥
 
--- a run that ended so printed the whole outcome
+-- a run that ended with this outcome has printed all of it
 pub record Finishes (outcome : Outcome) (status : Status) (before after : List ℕ) : Type 0 where
   pub end : IsEnd status
   pub ends : status ≡ status_of outcome.ending
@@ -38,7 +38,8 @@ pub record WritesWhole (before : List ℕ) (outcome : Outcome) (status : Status)
   pub ends : status ≡ status_of outcome.ending
   pub written : after ≡ Some (before ++ outcome.printed)
 
--- what a run with this outcome writes: after a fault, or want of memory, a front part of the printed text, and else all of it
+-- what a run with this outcome writes: a front part of the printed text
+-- if a read or a write failed or memory ran out, and otherwise all of it
 abbrev pub Writes : Outcome → (before : List ℕ) → Status → Option (List ℕ) → Type 0
 Writes outcome before ReadFault after = WritesFront before outcome.printed after
 Writes outcome before WriteFault after = WritesFront before outcome.printed after
@@ -52,9 +53,9 @@ HasStatus outcome WriteFault = Unit {0}
 HasStatus outcome Memory = Unit {0}
 HasStatus outcome status = status ≡ status_of outcome.ending
 
--- what a run shows of its source and its sink by its status, where each is seen by the bytes that it tells and by its count
--- of faults: a failed read or write is answered only where one came, want of memory only where none did; no count falls,
--- and what isn't told stays so
+-- what the status of a run shows of its source and its sink, each of which is seen by its
+-- visible bytes and its count of faults: a failed read or write is returned only if such a
+-- fault came, lack of memory only if none came; no count falls, and what isn't visible stays so
 pub record ShowsFaults {S K : Type 0} (left : S → Option (List ℕ)) (reads : S → ℕ) (written : K → Option (List ℕ)) (writes : K → ℕ)
     (status : Status) (source source' : S) (sink sink' : K) : Type 0 where
   pub read_fault : status ≡ ReadFault → Rose (reads source) (reads source')
@@ -63,7 +64,7 @@ pub record ShowsFaults {S K : Type 0} (left : S → Option (List ℕ)) (reads : 
   pub counted : (reads source ≤ reads source') × (writes sink ≤ writes sink')
   pub silent : (IfNone (left source) (left source' ≡ None)) × (IfNone (written sink) (written sink' ≡ None))
 
--- of the bytes `kept` a front part was written, and `rest` is left
+-- a front part of the bytes `kept` was written, and `rest` is left
 pub record Sends (before after : Option (List ℕ)) (kept rest : List ℕ) : Type 0 where
   pub sent : List ℕ
   pub parts : kept ≡ sent ++ rest

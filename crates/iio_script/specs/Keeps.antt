@@ -1,4 +1,4 @@
--- A run that keeps the lines of one connection's own world, and has come to a line. (This project's own.)
+-- A run that keeps the lines of one connection's own world, and has reached a line. (This project's own.)
 use Rattle.std.specs.Prelude.{◌≡◌, ℕ, ◌+◌, true, List, [], ◌∷◌, ◌++◌, Option, Some, None, Result, Ok, Err}
 use Rattle.iio_text.specs.declared.refusals.Why.{Why}
 use Rattle.iio_text.specs.declared.refusals.Why.TheVariants.{Bystander}
@@ -20,35 +20,35 @@ use Rattle.iio_script.specs.declared.stop.Stop.{Stop}
 use Rattle.iio_script.specs.declared.stop.Stop.TheVariants as stop
 use Rattle.iio_script.specs.Plays.{AreSame}
 
--- what a run came to: what is kept, or how the input ends
+-- the result of a run: what is kept, or how the input ends
 abbrev pub keeping_view : Keeping → Result (List ℕ) Ending
 keeping_view (keeping.Text text) = Ok text.items
 keeping_view (keeping.Refused line why) = Err (Refused line why)
 keeping_view keeping.TooLong = Err TooLong
 
--- what is kept of a text, seen as these bytes; nothing is said where memory ran out
+-- what is kept of a text, seen as these bytes; if memory ran out, nothing is said
 abbrev pub KeepsText : {B : Type 0} → (bytes : B → List ℕ) → List ℕ → List Driver → List ℕ → Result B Stop → Type 0
 KeepsText bytes a drivers text (Ok kept) = kept_of a drivers text ≡ Ok (bytes kept)
 KeepsText bytes a drivers text (Err (stop.Refused line why)) = kept_of a drivers text ≡ Err (Refused line why)
 KeepsText bytes a drivers text (Err stop.Mem) = Unit {0}
 
--- once no line is left: the text that was kept, or the line of the step that offended
+-- when no line is left: the text that was kept, or the line of the step that offended
 abbrev pub kept_at_end : Option ℕ → List ℕ → Result (List ℕ) Ending
 kept_at_end None text = Ok text
 kept_at_end (Some line) text = Err (Refused line Bystander)
 
--- what is kept of the lines of a script, the first of which has that number
+-- what is kept of the lines of a script, the first of which has the number `first`
 abbrev pub kept_of_lines : Setup → List ℕ → Ending → ℕ → List (List ℕ) → Result (List ℕ) Ending
 kept_of_lines s a ending first lines = kept_of_script s a (numbered_from s.desc [] first lines) (script_from s.desc ending [] first lines).ending
 
--- the same with lines yet to come, after feeds of these names
+-- the same with these lines still to come, after feeds of these names
 abbrev pub kept_on_lines : Setup → List ℕ → Option ℕ → List ℕ → List Event → Ending → (names : List (List ℕ)) → ℕ → List (List ℕ) → Result (List ℕ) Ending
 kept_on_lines s a offence text h ending names n lines =
     kept_on s a offence text h (numbered_from s.desc names n lines) (script_from s.desc ending names n lines).ending
 
 module _ {X : Type 0} {V : X → Type 0} (driver : Plug X V → Driver) where
-  -- the lines `given`, from that number on, were played, and that text was kept of them, or a step offended; the next line has
-  -- number n. So whatever lines follow
+  -- the lines `given`, from the number `first` on, were played, and that text was kept of them, or a step offended; the next
+  -- line has number n. This holds whatever lines follow
   pub record KeepsOn (s : Setup) (a : List ℕ) (x : System X V) (offence : Option ℕ) (text : List ℕ) (first n : ℕ) (given : List (List ℕ)) : Type 0 where
     pub done : List Event
     pub names : List (List ℕ)
@@ -58,7 +58,7 @@ module _ {X : Type 0} {V : X → Type 0} (driver : Plug X V → Driver) where
     pub kept : (ending : Ending) (lines : List (List ℕ))
         → kept_on_lines s a offence text done ending names n lines ≡ kept_of_lines s a ending first (given ++ lines)
 
-  -- a step was made, of that line
+  -- the step of line n was performed
   pub record KeepsStep (s : Setup) (a : List ℕ) (h : List Event) (n : ℕ) (t : Step) (offence offence' : Option ℕ) (text text' : List ℕ) (x' : System X V) : Type
       0 where
     pub stands : StandsFor driver s (with_step s h t) x'
@@ -66,7 +66,7 @@ module _ {X : Type 0} {V : X → Type 0} (driver : Plug X V → Driver) where
     pub kept : (ts : List Numbered) (ending : Ending)
         → kept_on s a offence text h (record { number = n; step = t } ∷ ts) ending ≡ kept_on s a offence' text' (with_step s h t) ts ending
 
-  -- a line was played; or it is refused, and so is the input there
+  -- a line was played; or it is refused, and then the input is refused there
   abbrev pub KeepsLine : Setup → (a : List ℕ) → System X V → (offence : Option ℕ) (text : List ℕ) (first n : ℕ) (given : List (List ℕ)) → (line : List ℕ)
       → Option Why → Type 0
   KeepsLine s a x offence text first n given line None = KeepsOn s a x offence text first (n + 1) (given ++ line ∷ [])

@@ -1,4 +1,4 @@
--- A run that has come to a line of a script.
+-- A run that has reached a line of a script.
 use Rattle.std.specs.Prelude.{◌≡◌, ◌⊎◌, ℕ, ◌+◌, ◌≤◌, List, [], ◌∷◌, ◌++◌, length, take, drop, Option, Some, None, IfSome, Result, Ok, Err}
 use Rattle.iio_text.specs.Lines.{lines_of}
 use Rattle.iio_sensor.specs.Driver.{Driver}
@@ -16,7 +16,7 @@ use Rattle.iio_script.specs.declared.status.Status.TheVariants.{Done, Memory, Re
 use Rattle.iio_script.specs.Ends.{Finishes, Sends}
 use Rattle.iio_script.specs.LineReader.{TakesNear, piece_size}
 
--- the same names, in whatever order
+-- the same names, in any order
 pub record AreSame (one other : List (List ℕ)) : Type 0 where
   pub known : (name : List ℕ) → is_known one name ≡ is_known other name
   pub count : length one ≡ length other
@@ -26,8 +26,8 @@ abbrev pub text_after : Setup → List Event → Script → List ℕ
 text_after s h script = transcript s h script.steps ++ ending_text script.ending
 
 module _ {X : Type 0} {V : X → Type 0} (driver : Plug X V → Driver) where
-  -- the lines `given`, from that number on, were played and printed that text; the next line has number n. So whatever lines
-  -- follow
+  -- the lines `given`, from the number `first` on, were played and printed
+  -- that text; the next line has number n. This holds whatever lines follow
   pub record Plays (s : Setup) (x : System X V) (text : List ℕ) (first n : ℕ) (given : List (List ℕ)) : Type 0 where
     pub done : List Event
     pub names : List (List ℕ)
@@ -40,7 +40,7 @@ module _ {X : Type 0} {V : X → Type 0} (driver : Plug X V → Driver) where
     pub history : (ending : Ending) (lines : List (List ℕ))
         → with_steps s done (script_from s.desc ending names n lines).steps ≡ with_steps s [] (script_from s.desc ending [] first (given ++ lines)).steps
 
-  -- a line was played; or it is refused, and its end was printed
+  -- a line was played; or it is refused, and the end of the script was printed
   abbrev pub PlaysLine : Setup → System X V → (text : List ℕ) (first n : ℕ) (given : List (List ℕ)) → (line : List ℕ) → Option Status → Type 0
   PlaysLine s x text first n given line None = Plays s x text first (n + 1) (given ++ line ∷ [])
   PlaysLine s x text first n given line (Some status) =
@@ -51,12 +51,12 @@ abbrev pub IsRefusedWith : ℕ → Status → Type 0
 IsRefusedWith number (Refused line why) = line ≡ number
 IsRefusedWith number status = ⊥
 
--- where it is refused, it is at that line
+-- if it is refused, it is at that line
 abbrev pub IsRefusedOr : ℕ → Status → Type 0
 IsRefusedOr number (Refused line why) = line ≡ number
 IsRefusedOr number status = Unit {0}
 
--- where a line is refused, not much more was taken than up to its end
+-- if a line is refused, not much more was taken than up to its end
 abbrev pub TakesFor : Status → List ℕ → Option (List ℕ) → Type 0
 TakesFor (Refused line why) left remaining = TakesNear line left remaining
 TakesFor status left remaining = Unit {0}
@@ -66,7 +66,7 @@ pub record IsFrontOf (outcome : Outcome) (text : List ℕ) : Type 0 where
   pub rest : List ℕ
   pub parts : outcome.printed ≡ text ++ rest
 
--- a read failed: of the input a front part was taken, and its whole lines printed that text
+-- a read failed: a front part of the input was taken, and its whole lines printed that text
 pub record FailsAt (s : Setup) (first : ℕ) (front : List (List ℕ)) (outcome : Outcome) (input text : List ℕ) (left : Option (List ℕ)) : Type 0 where
   pub begins : IsFrontOf outcome text
   pub count : ℕ
@@ -75,19 +75,19 @@ pub record FailsAt (s : Setup) (first : ℕ) (front : List (List ℕ)) (outcome 
   pub lines : lines_of (ended_part (take count input)) ≡ front ++ given
   pub printed : text ≡ script_text s (script_from s.desc Finished [] first given)
 
--- a script that ended was printed whole
+-- a script that ended was printed in full
 pub record FinishesAt (outcome : Outcome) (status : Status) (input text : List ℕ) (left : Option (List ℕ)) : Type 0 where
   pub finishes : Finishes outcome status [] text
   pub near : TakesFor status input left
 
--- how the steps of a script end: `sent` was written, and `kept` is to be written yet
+-- how the steps of a script end: `sent` was written, and `kept` is still to be written
 abbrev pub EndsSteps : Setup → (first : ℕ) (front : List (List ℕ)) → Outcome → (input : List ℕ) → Result Status Status → (sent kept : List ℕ)
     → (left : Option (List ℕ)) → Type 0
 EndsSteps s first front outcome input (Ok ReadFault) sent kept left = FailsAt s first front outcome input (sent ++ kept) left
 EndsSteps s first front outcome input (Ok status) sent kept left = FinishesAt outcome status input (sent ++ kept) left
 EndsSteps s first front outcome input (Err status) sent kept left = IsFrontOf outcome sent
 
--- before the last piece was taken, all that the whole lines taken till then print was written
+-- before the last piece was taken, all that the whole lines taken until then print had been written
 pub record AnswersSteps (s : Setup) (first : ℕ) (front : List (List ℕ)) (input sent : List ℕ) (left : Option (List ℕ)) : Type 0 where
   pub count : ℕ
   pub rest : left ≡ Some (drop count input)
@@ -98,11 +98,11 @@ pub record AnswersSteps (s : Setup) (first : ℕ) (front : List (List ℕ)) (inp
   pub more : List ℕ
   pub written : sent ≡ script_text s (script_from s.desc Finished [] first given) ++ more
 
--- so it is once a script has read on; before that nothing was taken
+-- this holds once a script has read on; before that nothing was taken
 abbrev pub AnswersScript : Setup → (first : ℕ) (front : List (List ℕ)) → (input sent : List ℕ) → (begin left : Option (List ℕ)) → Type 0
 AnswersScript s first front input sent begin left = (left ≡ begin) ⊎ AnswersSteps s first front input sent left
 
--- a run that has more to write ends by itself, or by a failed read; one that has not ends by a failed write or want of memory
+-- a run with more to write has ended by itself, or by a failed read; one without, by a failed write or because memory ran out
 abbrev pub IsOver : Result Status Status → Type 0
 IsOver (Ok Done) = Unit {0}
 IsOver (Ok (Refused line why)) = Unit {0}
@@ -113,7 +113,7 @@ IsOver (Err WriteFault) = Unit {0}
 IsOver (Err Memory) = Unit {0}
 IsOver (Err status) = ⊥
 
--- how a script ends, where that text is what was written of it
+-- how a script ends of which that text was written
 abbrev pub EndsScript : Setup → (first : ℕ) (front : List (List ℕ)) → Outcome → (input : List ℕ) → Status → (text : List ℕ) → (left : Option (List ℕ)) → Type 0
 EndsScript s first front outcome input ReadFault text left = FailsAt s first front outcome input text left
 EndsScript s first front outcome input WriteFault text left = IsFrontOf outcome text
@@ -124,12 +124,12 @@ EndsScript s first front outcome input status text left = FinishesAt outcome sta
 abbrev pub WritesText : (before after : Option (List ℕ)) → List ℕ → Type 0
 WritesText before after text = IfSome before (λ xs. after ≡ Some (xs ++ text))
 
--- what ends so that nothing is left to be written: all of it was written, or a write failed
+-- after an end nothing is left to be written: all of it was written, or a write failed
 abbrev pub EndsWriting : (status result : Status) (before after : Option (List ℕ)) (kept : List ℕ) → Type 0
 EndsWriting status result before after kept =
     ((result ≡ status) × Sends before after kept []) ⊎ ((result ≡ WriteFault) × ((rest : List ℕ) × Sends before after kept rest))
 
--- an outcome was printed and written, or a front part of it where that failed
+-- an outcome was printed and written, or a front part of it if that failed
 abbrev pub Prints : Outcome → Status → (text : List ℕ) → Type 0
 Prints outcome ReadFault text = ⊥
 Prints outcome Usage text = ⊥

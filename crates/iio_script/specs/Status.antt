@@ -3,7 +3,7 @@ use Rattle.std.specs.Prelude.{ℕ}
 use Rattle.iio_script.specs.declared.status.Status.{Status}
 use Rattle.iio_script.specs.declared.status.Status.TheVariants.{Done, Refused, Usage, ReadFault, WriteFault, Memory, TooLong}
 
--- the number that a process ends with
+-- the exit code of a process
 abbrev pub code_of : Status → ℕ
 code_of Done = 0
 code_of (Refused line why) = 1

@@ -1,4 +1,4 @@
--- The reader of steps, as contracts see it.
+-- The reader of steps, as seen by contracts.
 use Rattle.std.specs.Prelude.{ℕ, List, Result, Ok, Err}
 use Rattle.std.specs.Option.{ok_or}
 use Rattle.iio_base.specs.Refusals.{ensure, ◌>>=◌, ◌>>◌}
@@ -29,7 +29,7 @@ form_of word.Clock = clock_step
 form_of word.Drop = drop_step
 form_of word.Unplug = unplug_step
 
--- a feed by its name, and by the text from the word after that on
+-- a feed, read from its name and from the text that begins with the word after it
 abbrev pub feed_of : List ℕ → List ℕ → Result Step Why
 feed_of name text = do
   ensure (is_name name) why.Word

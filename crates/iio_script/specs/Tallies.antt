@@ -1,4 +1,4 @@
--- What is counted in a text that is played. (This project's own.)
+-- The counts of a text that is played. (This project's own.)
 use Rattle.std.specs.Prelude.{◌≡◌, ℕ, Bool, List, [], length, Result, Ok, Err}
 use Rattle.iio_sensor.specs.Driver.{Driver}
 use Rattle.iio_history.specs.Input.{is_overlong}
@@ -13,17 +13,17 @@ use Rattle.iio_system.specs.Tally.{tally_of}
 use Rattle.iio_script.specs.declared.stop.Stop.{Stop}
 use Rattle.iio_script.specs.declared.stop.Stop.TheVariants.{Refused, Mem}
 
--- what the steps of a script count
+-- the counts of a script's steps
 abbrev pub summary_of_script : Setup → Script → Summary
 summary_of_script s script = summary_of s (with_steps s [] script.steps)
 
--- and those after a description; nothing is counted without one
+-- the counts of the steps after a description; without a description nothing is counted
 abbrev pub summary_of_head : List Driver → Bool → Head → Summary
 summary_of_head drivers overlong (Described desc first lines) =
     summary_of_script (record { desc = desc; drivers = drivers }) (script_from desc (last_ending overlong) [] first lines)
 summary_of_head drivers overlong head = summary_in []
 
--- what an input counts, with these drivers
+-- the counts of an input, with these drivers
 abbrev pub summary_of_input : List Driver → List ℕ → Summary
 summary_of_input drivers input = summary_of_head drivers (is_overlong input) (head_of (length drivers) input)
 

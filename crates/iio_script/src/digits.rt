@@ -6,7 +6,7 @@ ghost use Rattle.std.specs.Fmt.{decimal};
 use iio_base::Mem;
 use itoa::Buffer;
 
-/// The digits of a number. Where memory runs out, nothing is appended.
+/// Appends the digits of a number. If memory runs out, nothing is appended.
 pub fn push_digits(out: &mut Vec<u8>, number: usize) -> Result<(), Mem>
     ensures digits { OnOk result (out.new.items ≡ out.old.items ++ decimal number) }
     ensures kept { OnErr result (out.new.items ≡ out.old.items) }

@@ -1,4 +1,4 @@
-//! How a run ends, and what it has printed and written then.
+//! How a run ends, and what it has printed and written by then.
 
 ghost use Rattle.std.specs.Prelude.{◌≡◌, ◌⊎◌, ◌≤◌, [], ℕ, List, None, IfOk, IfErr, IfNone, OnErr, OnOk};
 ghost use Rattle.iio_base.specs.Faults.{Rose};
@@ -27,7 +27,7 @@ fn refused_line(alloc: Global, line: u32, why: Why) -> Result<Vec<u8>, Mem>
     Ok(text)
 }
 
-/// The end at a refused line. Where memory runs out, nothing is printed.
+/// Appends the line that ends a run at a refused line, and returns the status. If memory runs out, nothing is appended.
 pub fn push_refused(alloc: Global, out: &mut Vec<u8>, line: u32, why: Why) -> Result<Status, Mem>
     ensures ends { IfOk result (λ status. Finishes (only_ending (Refused line why)) status out.old.items out.new.items) }
     ensures kept { OnErr result (out.new.items ≡ out.old.items) }
@@ -37,7 +37,8 @@ pub fn push_refused(alloc: Global, out: &mut Vec<u8>, line: u32, why: Why) -> Re
     Ok(Status::Refused { line, why })
 }
 
-/// The end after the last line that is looked at. Where memory runs out, nothing is printed.
+/// Appends what ends a run after the last looked-at line: `too long` if the input is overlong, otherwise nothing. Returns the
+/// status. If memory runs out, nothing is appended.
 pub fn push_end(out: &mut Vec<u8>, overlong: bool) -> Result<Status, Mem>
     ensures ends { IfOk result (λ status. Finishes (only_ending (last_ending overlong)) status out.old.items out.new.items) }
     ensures kept { OnErr result (out.new.items ≡ out.old.items) }
@@ -49,7 +50,7 @@ pub fn push_end(out: &mut Vec<u8>, overlong: bool) -> Result<Status, Mem>
     Ok(Status::Done)
 }
 
-/// Writes what a run has printed and not written yet. Where a write fails, a front part of it was written.
+/// Writes what a run has printed and not yet written. If a write fails, a front part of it was written.
 pub fn write_out<K: Sink>(output: &mut K, printed: &mut Vec<u8>) -> Result<(), Status>
     ensures whole { OnOk result (Sends (K.written output.old) (K.written output.new) printed.old.items []) }
     ensures none_left { OnOk result (printed.new.items ≡ []) }
@@ -69,7 +70,7 @@ pub fn write_out<K: Sink>(output: &mut K, printed: &mut Vec<u8>) -> Result<(), S
     }
 }
 
-/// Writes what is kept at the end of a run, whose status is `status`.
+/// Writes what is kept at the end of a run that ends with `status`. Returns that status, or `WriteFault` if a write fails.
 pub fn end_with<K: Sink>(output: &mut K, kept: &mut Vec<u8>, status: Status) -> Status
     ensures writes { EndsWriting status result (K.written output.old) (K.written output.new) kept.old.items }
     ensures prints { (outcome : Outcome) → Finishes outcome status [] kept.old.items
@@ -85,7 +86,7 @@ pub fn end_with<K: Sink>(output: &mut K, kept: &mut Vec<u8>, status: Status) -> 
     }
 }
 
-/// Prints the end at a refused line, where nothing was printed before.
+/// Writes how a run ends at a refused line, for a run that has printed nothing before. Returns the status.
 pub fn end_refused<K: Sink>(alloc: Global, output: &mut K, line: u32, why: Why) -> Status
     ensures prints { (text : List ℕ) × WritesText (K.written output.old) (K.written output.new) text × Prints (only_ending (Refused line why)) result text }
     ensures refused { IsRefusedOr line result }
@@ -101,7 +102,8 @@ pub fn end_refused<K: Sink>(alloc: Global, output: &mut K, line: u32, why: Why) 
     }
 }
 
-/// Prints the end of what is looked at, where nothing was printed before.
+/// Writes how a run ends whose input has more bytes than are looked
+/// at, for a run that has printed nothing before. Returns the status.
 pub fn end_cut<K: Sink>(alloc: Global, output: &mut K) -> Status
     ensures prints { (text : List ℕ) × WritesText (K.written output.old) (K.written output.new) text × Prints (only_ending TooLong) result text }
     ensures refused { IsRefusedOr 0 result }

@@ -1,4 +1,4 @@
-//! Playing an input for the world of one connection: what it prints, but for the steps of other connections.
+//! Playing an input for the world of one connection: what it prints, without the steps of other connections.
 
 ghost use Rattle.std.specs.Prelude.{◌≡◌, ◌+◌, ◌*◌, ◌^◌, ◌≤◌, ◌<◌, [], ◌++◌, true, ℕ, Err, IfOk, IfSome, IfNone, None, List, OnOk, length, map, if◌then◌else◌};
 ghost use Rattle.iio_base.specs.Faults.{Rose};
@@ -35,19 +35,19 @@ use iio_text::{LineFault, Why};
 use iio_worlds::solo_law;
 use std::alloc::Global;
 
-/// What a run over an input comes to that keeps the lines of one connection's own world.
+/// The result of a run over an input that keeps the lines of one connection's own world.
 #[derive(Drop)]
 pub enum Keeping {
-    /// What all steps print but those of other connections, which are bystanders.
+    /// What all steps print, without those of other connections, which are bystanders.
     Text(Vec<u8>),
-    /// The line of that number, counted from 1, is the first that fails; or none does, and its step is the first against the
-    /// rules of bystanders, which is why `Bystander`.
+    /// The line with this number, counted from 1, is the first that fails. Or, if none fails, its step is the first against
+    /// the rules of bystanders, and `why` is `Bystander`.
     Refused { line: u32, why: Why },
-    /// The input has more bytes than are looked at, and no line that is looked at fails.
+    /// The input has more bytes than are looked at, and no looked-at line fails.
     TooLong,
 }
 
-// Whether it is a step of another connection.
+// Whether a step is one of another connection.
 fn is_others(step: &Step, watched: &[u8]) -> bool
     ensures { result ≡ is_others watched.now (step_view step.now) }
 {
@@ -57,7 +57,7 @@ fn is_others(step: &Step, watched: &[u8]) -> bool
     }
 }
 
-// How many bytes of a text are kept, of which those from `at` on are the step's lines.
+// Returns the number of bytes of a text that are kept; the bytes from `at` on are the step's lines.
 fn kept_len(step: &Step, watched: &[u8], at: usize, len: usize) -> usize
     ensures { result ≡ (if is_others watched.now (step_view step.now) then at else len) }
 {
@@ -67,8 +67,8 @@ fn kept_len(step: &Step, watched: &[u8], at: usize, len: usize) -> usize
     len
 }
 
-// Makes the step of that line, and keeps its lines, where it isn't another connection's. Once a step has offended, further ones
-// are only made, since how the script ends hangs on the names that it feeds.
+// Performs the step of a line, and keeps its lines unless it is another connection's. Once a step has offended, further ones
+// are only performed because the names that they feed decide how the script ends.
 fn keep_step(
     system: &mut System,
     watched: &[u8],
@@ -104,8 +104,8 @@ fn keep_step(
     Ok(())
 }
 
-// Plays the line of that number. `names` finds what the script's description finds; `room` is room for the bytes of a feed. Why
-// it is refused comes where it is.
+// Plays the line with that number. `names` finds what the script's description finds; `room` is room for the bytes of a feed.
+// If the line is refused, the reason is returned.
 fn keep_line(
     alloc: Global,
     room: &mut Vec<u8>,
@@ -142,7 +142,7 @@ fn keep_line(
     Ok(None)
 }
 
-// What a run comes to once no line is left.
+// Returns the result of a run once no line is left.
 fn end_of_lines(text: Vec<u8>, offence: Option<u32>) -> Keeping
     ensures { keeping_view result ≡ kept_at_end offence text.items }
 {
@@ -155,7 +155,7 @@ fn end_of_lines(text: Vec<u8>, offence: Option<u32>) -> Keeping
     }
 }
 
-// The steps of a script from a line on, at a core before the first step.
+// Plays the steps of a script from a line on. The core is as it was before the first step.
 fn keep_steps<S: Source>(
     alloc: Global,
     system: &mut System,
@@ -219,7 +219,7 @@ fn keep_steps<S: Source>(
     }
 }
 
-// The script after a description, from a line on.
+// Plays the script after a description, from a line on.
 fn keep_described<S: Source>(
     alloc: Global,
     desc: Desc,
@@ -251,7 +251,7 @@ fn keep_described<S: Source>(
     keep_steps(alloc, &mut system, &names, lines, first, watched, input)
 }
 
-// Plays the input that a source has left, with that many drivers.
+// Plays the input that a source has left. `count` is the number of drivers.
 fn keep_input<S: Source>(
     alloc: Global,
     watched: &[u8],
@@ -283,9 +283,10 @@ fn keep_input<S: Source>(
     }
 }
 
-/// Plays the input that a source has left for the connection of the name `watched`, as [`play`](crate::play) plays it, and keeps
-/// what it prints but for the steps of other connections. The whole input is read first: a line that fails comes before any
-/// step against the rules of bystanders, and too many bytes before both. Drivers are handed in once, and one text is held.
+/// Plays the input that a source has left for the connection named `watched`, as [`play`](crate::play) does, and keeps what
+/// it prints without the steps of other connections. The whole input is read first: a line that fails counts before any step
+/// against the rules of bystanders, and too many bytes count before both. The drivers are handed in once, and one text is
+/// held.
 pub fn keep<S: Source>(
     alloc: Global,
     watched: &[u8],

@@ -1,4 +1,4 @@
-//! An input line by line, from a source that gives pieces.
+//! Reads an input line by line, from a source that gives pieces.
 
 ghost use Rattle.std.specs.Prelude.{◌≡◌, ◌⊎◌, ℕ, ◌+◌, ◌≤◌, ◌<◌, Bool, true, List, [], ◌∷◌, ◌++◌, length, Option, None, Err, IfOk, IfSome, IfNone, OnOk, OnErr, map, take, vec_len};
 ghost use Rattle.std.specs.Simd.Lanes.{chunk, mask_l};
@@ -14,10 +14,10 @@ use std::alloc::{AllocError, Global};
 use std::marker::Model;
 use std::simd::prelude::*;
 
-/// The most bytes that one read asks for: what a pipe holds.
+/// The maximum number of bytes that one read asks for: what a pipe holds.
 pub const MAX_PIECE_BYTES: usize = 65_536;
 
-/// What stands next in an input.
+/// What comes next in an input.
 #[derive(Clone, Copy, Debug, PartialEq, Eq)]
 pub(crate) enum Found {
     /// A line.
@@ -26,29 +26,29 @@ pub(crate) enum Found {
     Long,
     /// The input's end.
     End,
-    /// The end of what is looked at, where the input goes on.
+    /// The end of what is looked at, although the input goes on.
     Cut,
 }
 
 /// Takes pieces of at most 65,536 bytes from a source, and gives their lines one after another. It holds the line that is
-/// looked at, and less than a piece more.
+/// looked at, and at most a piece more.
 #[derive(Drop)]
 pub struct LineReader {
     bytes: Vec<u8>,
-    // Where the bytes begin that weren't given yet.
+    // The place of the first byte that wasn't given yet.
     begin: usize,
-    // How many of them were looked at, none of which is an LF.
+    // The number of these bytes that were looked at; none of them is an LF.
     looked: usize,
-    // How many bytes were given.
+    // The number of bytes that were given.
     given: usize,
     // The source has shown its end.
     ended: bool,
-    // The last line was given, without an LF.
+    // The last line was given, and it had no LF.
     over: bool,
     piece: Vec<u8>,
 }
 
-// Reads at most `room` bytes after those taken before, and answers how many. None come only at the end.
+// Reads at most `room` bytes after those taken before, and returns their number, which is 0 only at the end.
 fn read_piece<S: Source>(
     source: &mut S,
     piece: &mut [u8],
@@ -73,10 +73,10 @@ fn read_piece<S: Source>(
     Ok(count)
 }
 
-// How many bytes are looked at at once: most lines are shorter.
+// The number of bytes that are looked at together; most lines are shorter.
 const LANES: usize = 32;
 
-// Which of the first bytes are LFs, as a mask.
+// Returns which of the first `LANES` bytes are LFs, as a mask.
 #[inline]
 fn ends_in_lanes(bytes: &[u8]) -> u64
     requires { LANES ≤ length bytes.now }
@@ -87,7 +87,7 @@ fn ends_in_lanes(bytes: &[u8]) -> u64
         .to_bitmask()
 }
 
-// Where the first LF stands.
+// Returns the place of the first LF.
 #[inline]
 fn line_end(bytes: &[u8]) -> Option<usize>
     ensures { IsFirstByte (is_byte 10) bytes.now result }
@@ -114,7 +114,7 @@ impl Model for LineReader {
 }
 
 impl LineReader {
-    /// A reader before the first byte.
+    /// Makes a reader that has read nothing yet.
     pub fn new(alloc: Global) -> Result<LineReader, AllocError>
         ensures { IfOk result (λ r. r ≡ empty_hand) }
     {
@@ -129,7 +129,7 @@ impl LineReader {
         })
     }
 
-    /// The line that was found, without its LF.
+    /// Returns the line that was found, without its LF.
     pub(crate) fn line(&self) -> &[u8]
         ensures { result.now ≡ line_of self.now }
     {
@@ -152,7 +152,7 @@ impl LineReader {
         };
     }
 
-    /// What stands next, where the bytes in hand tell it.
+    /// Returns what comes next, if the bytes in hand decide it.
     pub(crate) fn look(&mut self) -> Option<Found>
         ensures found { IfSome result (λ found. Shows found self.new) }
         ensures more { IfNone result (NeedsMore self.new) }
@@ -186,7 +186,7 @@ impl LineReader {
         Some(Found::Line)
     }
 
-    /// Goes past the line that was found.
+    /// Moves on to what comes after the line that was found.
     pub(crate) fn pass(&mut self)
         requires { HasLine self.old }
         ensures follows { (input : List ℕ) (front : List (List ℕ)) (left : Option (List ℕ)) → Follows input front self.old left
@@ -206,8 +206,8 @@ impl LineReader {
         self.looked = 0;
     }
 
-    // Moves the bytes in hand to the front, where they don't stand there: at most once for each line, and then no more of
-    // them than came in the last piece.
+    // Moves the bytes in hand to the front, unless they stand there already. This happens at most once for each line, and
+    // then for no more bytes than came in the last piece.
     fn close_up(&mut self)
         ensures same { self.new ≡ self.old }
     {
@@ -220,7 +220,7 @@ impl LineReader {
         self.begin = 0;
     }
 
-    /// Takes the next piece, where more bytes are wanted.
+    /// Takes the next piece, if more bytes are needed.
     fn fill<S: Source>(&mut self, source: &mut S) -> Result<(), ReadEnd>
         requires { NeedsMore self.old }
         ensures follows { (input : List ℕ) (front : List (List ℕ)) → Follows input front self.old (S.left source.old)
@@ -244,7 +244,7 @@ impl LineReader {
         Ok(())
     }
 
-    /// What stands next. Pieces are taken until it is told.
+    /// Returns what comes next. Takes pieces until the bytes in hand decide it.
     pub(crate) fn find<S: Source>(&mut self, source: &mut S) -> Result<Found, ReadEnd>
         ensures found { IfOk result (λ found. Shows found self.new) }
         ensures more { OnErr result (NeedsMore self.new) }
@@ -267,7 +267,7 @@ impl LineReader {
         }
     }
 
-    /// What stands next, where a look has told it, and then nothing is read; else as `find`.
+    /// Returns what comes next: what a look has already found, and then nothing is read; otherwise like `find`.
     pub(crate) fn find_on<S: Source>(
         &mut self,
         seen: Option<Found>,

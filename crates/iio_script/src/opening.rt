@@ -13,20 +13,20 @@ use iio_io::{ReadEnd, Source};
 use iio_text::Why;
 use std::alloc::Global;
 
-/// What the lines up to the end of a description say.
+/// What the lines up to the end of a description give.
 #[derive(Drop)]
 pub enum Opening {
-    /// A description that a line ends. The line after it has the number `first`.
+    /// A description that a line ends. The line after that one has the number `first`.
     Described { desc: Desc, first: u32 },
-    /// A description that the input's end ends.
+    /// A description that ends with the input.
     Alone { desc: Desc },
-    /// The line of that number, counted from 1, is refused.
+    /// The line with this number, counted from 1, is refused.
     Refused { line: u32, why: Why },
-    /// The lines that are looked at end before the description, and the input goes on.
+    /// The looked-at lines end before the description does, although the input goes on.
     Cut,
 }
 
-// The description that a line of that number ends.
+// Returns the description that the line with that number ends.
 fn end_at(reader: DescReader, line: &[u8], number: u32) -> Result<Opening, ReadEnd>
     requires reading { IsOk reader }
     requires lines { line_count reader + 1 ≡ number }
@@ -47,7 +47,7 @@ fn end_at(reader: DescReader, line: &[u8], number: u32) -> Result<Opening, ReadE
     }
 }
 
-// The description that the input's end ends.
+// Returns the description that ends with the input.
 fn end_after(reader: DescReader) -> Result<Opening, ReadEnd>
     requires reading { IsOk reader }
     ensures opening { IfOk result (λ opening. (next : ℕ) (more : List (List ℕ)) → told next more opening ≡ described next [] (finished reader)) }
@@ -63,8 +63,8 @@ fn end_after(reader: DescReader) -> Result<Opening, ReadEnd>
     }
 }
 
-/// Reads the description at the head of the input that a source has left, which may use as many drivers as are handed in.
-/// The line after it is the reader's next.
+/// Reads the description at the head of the input that a source has left. It may use as many drivers as are handed in. The
+/// line after it is the reader's next.
 pub fn open<S: Source>(
     alloc: Global,
     lines: &mut LineReader,

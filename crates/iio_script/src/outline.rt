@@ -8,7 +8,7 @@ use iio_desc::{AverageDesc, Desc, DeviceDesc, OutDesc, TriggerDesc};
 use iio_layout::Rows;
 use std::alloc::Global;
 
-// A device of the same name, without rows and attributes.
+// Makes a device of the same name, without rows and attributes.
 fn outline_device(alloc: Global, device: &DeviceDesc) -> Result<DeviceDesc, Mem>
     ensures { IfOk result (λ d. d.name ≡ device.now.name) }
 {
@@ -78,8 +78,7 @@ fn copy_triggers(alloc: Global, triggers: &[TriggerDesc]) -> Result<Vec<TriggerD
     Ok(copies)
 }
 
-/// A description with the triggers of another, and with devices of the same names and kinds, which have no rows and no
-/// attributes.
+/// Makes a description with the same triggers, and with devices of the same names and kinds, but without rows and attributes.
 pub fn outline(alloc: Global, desc: &Desc) -> Result<Desc, Mem>
     ensures { IfOk result (λ o. FindsSame o desc.now) }
 {

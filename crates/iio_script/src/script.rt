@@ -35,10 +35,10 @@ use iio_system::{Step, System};
 use iio_text::{LineFault, Why};
 use std::alloc::Global;
 
-// The most bytes that are kept back where no read comes between.
+// The maximum number of bytes that are kept back as long as no read comes between.
 const KEPT: usize = 61_440;
 
-/// Whether a step keeps to the number of names.
+/// Whether a step leaves the number of names within its limit.
 pub(crate) fn takes(system: &System, step: &Step) -> bool
     ensures { result ≡ keeps_names (names_by system.now) (Some (step_view step.now)) }
 {
@@ -55,8 +55,8 @@ pub(crate) fn keep_room(step: Step, room: &mut Vec<u8>) {
     }
 }
 
-// Plays the line of that number. `names` finds what the script's description finds; `room` is room for the bytes of a feed. A
-// status comes where the script ends at the line, since it is refused.
+// Plays the line with that number. `names` finds what the script's description finds; `room` is room for the bytes of a feed.
+// Returns a status if the script ends at the line, because it is refused.
 fn play_line(
     alloc: Global,
     room: &mut Vec<u8>,
@@ -92,7 +92,7 @@ fn play_line(
     Ok(None)
 }
 
-// Writes what is kept, where bytes have to be read for the next line or much is kept.
+// Writes what is kept, if bytes have to be read for the next line or much is kept.
 fn write_ready<K: Sink>(
     lines: &mut LineReader,
     output: &mut K,
@@ -121,8 +121,9 @@ fn write_ready<K: Sink>(
     Ok(seen)
 }
 
-// The steps of a script from a line on, at a core before the first step. What is printed is written in pieces, and all of it
-// before a read. An `Ok` has bytes in `out` to be written yet; its status is that of the script, or that of a failed read.
+// Plays the steps of a script from a line on. The core is as it was before the first step. What is printed is written in
+// pieces, and all of it before a read. After an `Ok`, `out` has bytes that are still to be written; its status is that of the
+// script, or that of a failed read.
 pub(crate) fn play_steps<S: Source, K: Sink>(
     alloc: Global,
     system: &mut System,
@@ -189,7 +190,7 @@ pub(crate) fn play_steps<S: Source, K: Sink>(
     }
 }
 
-// The script after a description, from a line on.
+// Plays the script after a description, from a line on.
 fn play_described<S: Source, K: Sink>(
     alloc: Global,
     desc: Desc,
@@ -236,7 +237,7 @@ fn play_described<S: Source, K: Sink>(
     }
 }
 
-// Plays the input that a source has left, with these drivers, of which there are `count`.
+// Plays the input that a source has left. `count` is the number of drivers.
 fn play_input<S: Source, K: Sink>(
     alloc: Global,
     input: &mut S,
@@ -266,11 +267,11 @@ fn play_input<S: Source, K: Sink>(
     }
 }
 
-/// Plays the input that a source has left, and writes what it prints to a sink: a description, and then the steps of a
-/// script, up to the first line that is refused. A device of a driver's number samples the driver of that number among
-/// those that are handed in, any other its recorded rows. Lines are played as they come, and what they print is written
-/// before more is read: a failed read loses nothing of the lines before, and a refusal leaves what follows in the
-/// source, but for a piece of 65,536 bytes.
+/// Plays the input that a source has left, and writes what it prints to a sink: the input is a description, and then the
+/// steps of a script, which are played up to the first refused line. A device with a driver's number samples the driver of
+/// that number among those handed in, any other device its recorded rows. Lines are played as they come, and what they print
+/// is written before more is read: a failed read loses nothing of the lines before it, and a refusal leaves what follows in
+/// the source, except for at most a piece of 65,536 bytes.
 pub fn play<S: Source, K: Sink>(
     alloc: Global,
     input: &mut S,
@@ -282,12 +283,12 @@ pub fn play<S: Source, K: Sink>(
     ensures status { IfSome (S.left input.old) (λ left. HasStatus (outcome_of (map (λ d. ⟦<Plug as Sensor>⟧.driver (Given d)) drivers.items) left) result) }
     ensures words { result ≡ Status.Usage → ⊥ }
     ensures taken { IfSome (S.left input.old) (λ left. TakesAtMost left (input_limit + 1) (S.left input.new)) }
-    // Where a line is refused, at most a piece was taken after the byte at which it failed.
+    // If a line is refused, at most a piece was taken after the byte at which it failed.
     ensures near { IfSome (S.left input.old) (λ left. TakesFor result left (S.left input.new)) }
-    // Where a read failed, what the whole lines before it print was written.
+    // If a read failed, all that the whole lines before it print was written.
     ensures whole_lines { result ≡ Status.ReadFault → IfSome (S.left input.old) (λ left. IfSome (K.written output.old) (λ written.
         WritesLines (map (λ d. ⟦<Plug as Sensor>⟧.driver (Given d)) drivers.items) left written (S.left input.new) (K.written output.new))) }
-    // However it ends, at most a piece was taken since all was written that the whole lines before it print.
+    // However the run ends: before the last piece was taken, all that the whole lines taken until then print had been written.
     ensures answered { IfSome (S.left input.old) (λ left. IfSome (K.written output.old) (λ written.
         WritesFirst (map (λ d. ⟦<Plug as Sensor>⟧.driver (Given d)) drivers.items) left written (S.left input.new) (K.written output.new))) }
     ensures faults { ShowsFaults S.left S.faults K.written K.faults result input.old input.new output.old output.new }

@@ -12,9 +12,9 @@ use iio_text::Why;
 pub enum Status {
     /// The input was read to its end.
     Done,
-    /// The line of that number, counted from 1, is the first that fails.
+    /// The line with this number, counted from 1, is the first that fails.
     Refused { line: u32, why: Why },
-    /// The program's words are none of its commands.
+    /// The program's words are not one of its commands.
     Usage,
     /// Reading the input failed.
     ReadFault,
@@ -22,7 +22,7 @@ pub enum Status {
     WriteFault,
     /// Memory ran out.
     Memory,
-    /// The input has more bytes than are looked at, and no line that is looked at fails.
+    /// The input has more bytes than are looked at, and no looked-at line fails.
     TooLong,
 }
 
@@ -35,7 +35,7 @@ impl From<Mem> for Status {
 }
 
 impl Status {
-    /// The number that a process ends with.
+    /// Returns the exit code of the process.
     pub fn code(&self) -> u8
         ensures { result ≡ code_of self.now }
     {

@@ -1,4 +1,4 @@
-//! The lines of a script as steps.
+//! Reads the lines of a script as steps.
 
 ghost use Rattle.std.specs.Prelude.{◌≡◌, ◌<◌, length, option_map, IfOk, IfErr, IfSome, MatchResult, Ok, Err, List, ℕ, ℤ};
 ghost use Rattle.iio_desc.specs.Description.{Description, heads_of};
@@ -21,7 +21,7 @@ use iio_text::{
 use std::alloc::Global;
 use std::mem;
 
-// The number of the trigger of that name.
+// Returns the number of the trigger of that name.
 fn trigger_word(desc: &Desc, word: &[u8]) -> Result<u32, Why>
     ensures value { result ≡ trigger_word desc.now word.now }
     ensures within { IfOk result (λ trigger. trigger < length desc.now.triggers) }
@@ -29,7 +29,7 @@ fn trigger_word(desc: &Desc, word: &[u8]) -> Result<u32, Why>
     desc.find_trigger(word).ok_or(Why::Trigger)
 }
 
-// The number of the device of that name.
+// Returns the number of the device of that name.
 fn device_word(desc: &Desc, word: &[u8]) -> Result<u32, Why>
     ensures value { result ≡ device_word desc.now word.now }
     ensures within { IfOk result (λ device. device < length (heads_of desc.now)) }
@@ -114,7 +114,7 @@ fn read_unplug(desc: &Desc, words: &[u8]) -> Result<Step, Why>
     Ok(Step::Unplug(device))
 }
 
-// A step by the words after its first one.
+// Reads a step from the words after its first one.
 fn read_words(desc: &Desc, word: StepWord, words: &[u8]) -> Result<Step, Why>
     ensures value { read_view result ≡ form_of word desc.now (words_of is_space words.now) }
     ensures valid { IfOk result (IsValid (length desc.now.triggers) (length (heads_of desc.now))) }
@@ -136,7 +136,7 @@ fn read_words(desc: &Desc, word: StepWord, words: &[u8]) -> Result<Step, Why>
     }
 }
 
-// `NAME "bytes"`, by the name and by the words after it. The step takes the room for its bytes.
+// `NAME "bytes"`, from the name and the words after it. The step takes the room for its bytes.
 fn read_feed(
     alloc: Global,
     room: &mut Vec<u8>,
@@ -161,7 +161,7 @@ fn read_feed(
     }
 }
 
-// A line by its first word, and by the words after it.
+// Reads a line from its first word and the words after it.
 fn read_line(
     alloc: Global,
     room: &mut Vec<u8>,
@@ -181,9 +181,9 @@ fn read_line(
     }
 }
 
-/// The step that a line of a script says, without its LF. `None` comes exactly for a line without a word and for a comment,
-/// whose first byte is `#`, where it isn't too long. An `Err` is the first check that fails, or want of memory; how many
-/// connections a script may have isn't checked here.
+/// Returns the step of a line of a script, given without its LF. Returns `None` exactly if the line, not being too long, has
+/// no word or is a comment, whose first byte is `#`. An `Err` is the first check that fails, or that memory ran out. The
+/// number of connections that a script may have isn't checked here.
 pub fn read_step(alloc: Global, desc: &Desc, line: &[u8]) -> Result<Option<Step>, LineFault>
     ensures ok { IfOk result (λ step. step_of desc.now line.now ≡ Ok (option_map step_view step)) }
     ensures err { IfErr result (λ e. Tells e (step_of desc.now line.now)) }
@@ -193,7 +193,7 @@ pub fn read_step(alloc: Global, desc: &Desc, line: &[u8]) -> Result<Option<Step>
     read_step_into(alloc, &mut room, desc, line)
 }
 
-/// The step that a line says, as by `read_step`. The step of a feed takes `room` for its bytes, whatever was in it.
+/// Returns the step of a line, like `read_step`. The step of a feed takes `room` for its bytes, whatever was in it.
 #[inline(always)]
 pub(crate) fn read_step_into(
     alloc: Global,

@@ -7,7 +7,7 @@ ghost use Rattle.iio_script.specs.Step.{form_of};
 
 use iio_text::is_word;
 
-/// A word with which a step begins; none of them is a connection's name in a feed.
+/// A word that begins a step; none of them is a connection's name in a feed.
 #[derive(Clone, Copy, Debug, PartialEq, Eq)]
 pub(crate) enum StepWord {
     Fire,
@@ -20,7 +20,7 @@ pub(crate) enum StepWord {
 }
 
 impl StepWord {
-    /// The step that a word begins.
+    /// Returns the step that a word begins.
     pub(crate) fn of(word: &[u8]) -> Option<StepWord>
         ensures { option_map form_of result ≡ entry_of step_words word.now }
     {

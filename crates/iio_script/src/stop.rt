@@ -1,4 +1,4 @@
-//! What is counted in a text that is played, and what is kept of it.
+//! The counts of a text that is played, and what is kept of it.
 
 ghost use Rattle.std.specs.Prelude.{◌≡◌, ◌+◌, ◌≤◌, [], ◌++◌, List, ℕ, length, map, None, Some};
 ghost use Rattle.iio_desc.specs.WellFormed.{IsWellFormed};
@@ -24,17 +24,17 @@ use iio_system::{System, Tally};
 use iio_text::Why;
 use std::alloc::Global;
 
-/// Why a text isn't counted, or nothing is kept of it.
+/// Why a text has no counts, or nothing is kept of it.
 #[derive(Clone, Copy, Debug, PartialEq, Eq)]
 pub enum Stop {
-    /// The line of that number, counted from 1, is the first that fails. Where something is to be kept of a text of which none
-    /// does, it is the line of the first step against the rules of bystanders, and why is `Bystander`.
+    /// The line with this number, counted from 1, is the first that fails. If no line of a text fails of which something is
+    /// to be kept, it is the line of the first step against the rules of bystanders, and `why` is `Bystander`.
     Refused { line: u32, why: Why },
     /// Memory ran out.
     Mem,
 }
 
-// A sink that lets go of all bytes.
+// A sink that drops all bytes.
 #[derive(Drop)]
 struct NoSink;
 
@@ -48,7 +48,7 @@ impl Sink for NoSink {
     }
 }
 
-// A text that is there, as a source of its bytes. No read fails.
+// A text in memory, as a source of its bytes. No read fails.
 #[derive(Drop)]
 struct Text<'a> {
     rest: &'a [u8],
@@ -68,7 +68,7 @@ impl Source for Text<'_> {
     }
 }
 
-// What the steps of a script count, from a line on, without drivers.
+// Returns the counts of the steps of a script from a line on, without drivers.
 fn tally_steps<S: Source>(
     alloc: Global,
     desc: Desc,
@@ -106,7 +106,7 @@ fn tally_steps<S: Source>(
     }
 }
 
-// What is counted where a description has no steps after it.
+// Returns the counts of a description without steps.
 fn tally_alone(alloc: Global, desc: Desc) -> Result<Tally, Stop>
     requires { IsWellFormed 0 desc }
     ensures { (first : ℕ) → TalliesScript (record { desc = desc; drivers = [] }) (script_from desc Finished [] first []) result }
@@ -117,8 +117,8 @@ fn tally_alone(alloc: Global, desc: Desc) -> Result<Tally, Stop>
     }
 }
 
-/// What is counted in a text that is played without drivers: the description at its head, and then the steps of its script.
-/// `Refused` comes at the first line that fails.
+/// Returns the counts of a text that is played without drivers: the description at its head, and then the steps of its
+/// script. `Refused` if a line fails, at the first such line.
 pub fn tally(alloc: Global, text: &[u8]) -> Result<Tally, Stop>
     requires { length text.now ≤ input_limit }
     ensures { Tallies text.now result }
@@ -138,8 +138,9 @@ pub fn tally(alloc: Global, text: &[u8]) -> Result<Tally, Stop>
     }
 }
 
-/// What is kept of a text that is played with these drivers: what it prints, but for the steps of connections of other names.
-/// `Refused` comes at the first line that fails, or else at the first step against the rules of bystanders.
+/// Returns what is kept of a text that is played with these drivers: what it prints, without
+/// the steps of connections of other names. `Refused` if a line fails, at the first such
+/// line; otherwise if a step is against the rules of bystanders, at the first such step.
 pub fn kept(
     alloc: Global,
     name: &[u8],

@@ -1,4 +1,4 @@
-//! Scripts over sources and sinks in memory. Expected texts by hand.
+//! Scripts over sources and sinks in memory. The expected texts were written by hand.
 
 mod attributes;
 mod averaging;
@@ -32,7 +32,7 @@ use std::alloc::Global;
 use std::process::Abort;
 use std::test::Fail;
 
-// That a run doesn't give up, but comes to its end.
+// Checks that a run comes to its end, and doesn't give up.
 fn check_done(
     rt: &impl Abort,
     alloc: Global,

@@ -8,7 +8,7 @@ use Rattle.iio_layout.specs.Shape.{ShapeRecord}
 use Rattle.iio_sensor.specs.declared.held.Held.{Held}
 use Rattle.iio_sensor.specs.Held.{IsScanOf}
 
--- a scan is no longer than what is held
+-- a scan isn't longer than what is held
 pub scan_fits : (h : Held) (shape : ShapeRecord) (value : ℕ → ℕ → ℤ) → IsScanOf h shape value → scan_size shape h.mask.bits ≤ length h.scan
 scan_fits h shape value is =
     let long = length-scan_of shape h.mask.bits (values_by shape value) is.moment (length-values_by shape value) in

@@ -10,7 +10,7 @@ use Rattle.iio_layout.specs.Shape.{RowsRecord}
 use Rattle.iio_layout.specs.Rows.{Rises}
 use Rattle.iio_sensor.specs.Recorded.{come_by, row_before}
 
--- where the elements that pass stand before the others, their number is the place between
+-- if the elements that pass come before the others, their number is the place between
 pub count_to_point : (p : ℤ → Bool) (xs : List ℤ) (i : ℕ) → i ≤ length xs → IsPartitionPoint (λ x. p x ≡ true) (λ x. p x ≡ false) xs i → count_by p xs ≡ i
 count_to_point p xs i h point =
     let whole : i + (length xs - i) ≡ length xs = omega arith in
@@ -30,7 +30,7 @@ count_to_point p xs i h point =
         ap (λ m. count_by p (take m xs)) one ∙ count_by_more_no p xs (i + n) (pos 0) (omega arith) (point.1 (i + n) (pos 0) (omega arith) (omega arith))
         ∙ after n (omega arith)
 
--- the moments that have come stand before the others
+-- the moments that have come are before the others
 pub moments_parted : (moments : List ℤ) (t : ℤ) → Rises moments → IsPartitionedBy (λ m. int_le m t) moments
 moments_parted moments t h i j d le last e = by_cases (cases_eq i j)
   where
@@ -46,7 +46,7 @@ row_part rows (suc k) h =
     let size : suc k * rows.width - k * rows.width ≡ rows.width = omega (arith, suc-mul k rows.width) in
     rw (front, size) refl
 
--- that many moments have come where the last of them has and the next hasn't
+-- that many moments have come if the last of them has and the next hasn't
 pub come_at : (moments : List ℤ) (t : ℤ) (n : ℕ) → Rises moments → n ≤ length moments → (0 < n → int_lt t (get_or moments (n - 1) (pos 0)) ≡ false)
     → (n < length moments → int_lt t (get_or moments n (pos 0)) ≡ true) → n ≡ come_by moments t
 come_at moments t n rises within last next = sym (count_to_point (λ m. int_le m t) moments n within (come, later))

@@ -14,7 +14,7 @@ use Rattle.iio_layout.specs.Shape.{ShapeRecord, count_of, formats_of, stamp_form
 use Rattle.iio_layout.proofs.LayoutLemmas.{end_within, stamp_type_of, stamp_values, stamped_count}
 use Rattle.iio_layout.proofs.ValueLemmas.{data_field}
 
--- ---- what stands before the timestamp
+-- ---- what comes before the timestamp
 
 -- the data channels' bytes are the same at each moment
 front_same : (shape : ShapeRecord) (mask : ℕ) (value : ℕ → ℕ → ℤ) (t t' : ℤ) (c : ℕ) → c ≤ length shape.channels
@@ -58,7 +58,7 @@ length-front shape mask value t (suc c) within =
       | inr other ↦ rw other before
     ]
 
--- ---- where the moment has no bytes
+-- ---- if the moment has no bytes
 
 -- without a timestamp
 pub same_without : (shape : ShapeRecord) (mask : ℕ) (value : ℕ → ℕ → ℤ) (t t' : ℤ) → shape.stamp ≡ None
@@ -94,7 +94,7 @@ same_unselected shape mask value endian t t' stamped other =
         ∙ ap (λ selected. with_field selected (front_below formats mask all (length shape.channels)) (size_at formats (length shape.channels))
         (field_at formats all (length shape.channels))) other
 
--- ---- where it has
+-- ---- if it has
 
 stamp_size : (shape : ShapeRecord) (endian : Endian) → shape.stamp ≡ Some endian → size_at (formats_of shape) (length shape.channels) ≡ 8
 stamp_size shape endian stamped = ap size_of (stamp_type_of shape endian stamped)
@@ -110,7 +110,7 @@ stamp_bytes shape value endian t stamped =
 length-stamp : (endian : Endian) (t : ℤ) → length (element_bytes (stamp_format endian) t) ≡ 8
 length-stamp endian t = length-number_bytes endian 8 (low_bits 64 t * 2 ^ 0)
 
--- the data channels' bytes at any moment, then those of this one
+-- the data channels' bytes at any moment, then the bytes of this moment
 stamped_front : (shape : ShapeRecord) (mask : ℕ) (value : ℕ → ℕ → ℤ) (endian : Endian) (t t' : ℤ) → shape.stamp ≡ Some endian
     → has mask (length shape.channels) ≡ true
     → front_below (formats_of shape) mask (capture_values (values_by shape value) t') (count_of shape)
@@ -127,7 +127,7 @@ stamped_front shape mask value endian t t' stamped selected =
     ∙ ap (λ size. padded (front_below formats mask all last) size ++ bytes) (stamp_size shape endian stamped)
     ∙ ap (λ front. padded front 8 ++ bytes) (front_same shape mask value t t' last (omega arith))
 
--- other bytes in the place of as many
+-- the eight bytes at a place are replaced by others
 replaced : (before old new after : List ℕ) (place : ℕ) → length before ≡ place → length old ≡ 8
     → (before ++ new) ++ after ≡ take place ((before ++ old) ++ after) ++ (new ++ drop (place + 8) ((before ++ old) ++ after))
 replaced before old new after place is long =
@@ -167,7 +167,7 @@ restamped shape mask value endian t t' stamped selected =
     ∙ ap (λ xs. take place (padded xs largest) ++ (new ++ drop (place + 8) (padded xs largest)))
     (sym (stamped_front shape mask value endian t t stamped selected))
 
--- the timestamp lies within the scan
+-- the timestamp is within the scan
 pub stamp_fits : (shape : ShapeRecord) (mask : ℕ) (value : ℕ → ℕ → ℤ) (endian : Endian) (t : ℤ) → shape.stamp ≡ Some endian
     → has mask (length shape.channels) ≡ true
     → place_of shape mask (length shape.channels) + 8 ≤ length (scan_of shape mask (values_by shape value) t)

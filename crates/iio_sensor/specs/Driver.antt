@@ -1,6 +1,6 @@
--- What a driver of a device's sensor is, apart from how it is built: what it samples, what is added, and what it has
--- been asked. (Kernel, driver-api/iio: a driver fills one scan of the active channels at a trigger. That asks have
--- numbers, and that listed ones fail, is this project's own.)
+-- What a driver of a device's sensor is, apart from how it is built: what it samples, what is added, and what it has been
+-- asked. (Kernel, driver-api/iio: a driver fills one scan of the active channels at a trigger. That asks have numbers, and that
+-- listed ones fail, are this project's own.)
 use Rattle.std.specs.Prelude.{◌≡◌, ℕ, ◌+◌, ◌-◌, ◌^◌, min, ◌==◌, Bool, List, slice_index_or, if◌then◌else◌, ℤ, pos, ◌+ℤ◌, Option, Some}
 use Rattle.std.specs.List.{list_any}
 use Rattle.iio_scan_type.specs.Format.{Format, saturated}
@@ -36,7 +36,7 @@ with_one biases c bias k = if k == c then bias else biases k
 
 -- ---- values
 
--- a sample with its bias, exactly added, or the nearer end of the type's range where the sum lies outside
+-- a sample plus its bias, added exactly, or the nearer end of the type's range if the sum lies outside
 abbrev pub with_bias : Format → ℤ → ℤ → ℤ
 with_bias format sample bias = saturated format (sample +ℤ bias)
 
@@ -54,7 +54,7 @@ values_of d shape t = values_by shape (value_of d shape t)
 
 -- ---- asks
 
--- one more, or 2 ^ 64 - 1 where that is reached
+-- one more, or 2 ^ 64 - 1 once that is reached
 abbrev pub next_count : ℕ → ℕ
 next_count n = min (n + 1) (2 ^ 64 - 1)
 
@@ -66,10 +66,10 @@ ask_fails d = list_any (λ n. n == next_count d.asked) d.fails
 abbrev pub after_ask : Driver → Driver
 after_ask d = record d { asked = next_count d.asked; faults = if ask_fails d then next_count d.faults else d.faults }
 
--- the driver after the ask for a capture
+-- the driver after an ask for a capture
 abbrev pub after_capture : Driver → ℤ → ℕ → Driver
 after_capture d t mask = record (after_ask d) { last = Some (t, mask) }
 
--- the driver after one bias was set
+-- the driver after a bias was set
 abbrev pub after_bias : Driver → ℕ → ℤ → Driver
 after_bias d c bias = record d { bias = with_one d.bias c bias }

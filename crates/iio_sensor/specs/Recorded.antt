@@ -6,11 +6,11 @@ use Rattle.iio_layout.specs.Layout.{format_at}
 use Rattle.iio_layout.specs.Scan.{first_value}
 use Rattle.iio_sensor.specs.Driver.{Driver, bias_in, with_bias}
 
--- how many moments have come
+-- the number of moments that have come
 abbrev pub come_by : List ℤ → ℤ → ℕ
 come_by moments t = count_by (λ m. int_le m t) moments
 
--- the last of the first n rows, or none where n is 0
+-- the last of the first n rows, or none if n is 0
 abbrev pub row_before : RowsRecord → ℕ → List ℤ
 row_before rows zero = []
 row_before rows (suc k) = take rows.width (drop (k * rows.width) rows.values)
@@ -34,7 +34,7 @@ pub record RecordedRecord : Type 0 where
   pub asked : ℕ
   pub last : Option (ℤ × ℕ)
 
--- as a driver: no ask fails
+-- the recording as a driver: no ask fails
 abbrev pub driver_of : RecordedRecord → Driver
 driver_of r = record {
   sample = λ shape c k t. number_in (row_at r.rows t) (formats_of shape) c k;

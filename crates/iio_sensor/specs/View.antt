@@ -1,4 +1,4 @@
--- How drivers are seen.
+-- Drivers as contracts see them.
 use Rattle.iio_layout.specs.Rows.{IsRecording}
 use Rattle.iio_sensor.specs.declared.failing.Failing.TheInside as failing
 use Rattle.iio_sensor.specs.declared.ramp.Ramp.TheInside as ramp

@@ -15,7 +15,7 @@ pub(crate) struct Asks {
 }
 
 impl Asks {
-    /// Never asked, without a bias.
+    /// The state of a driver that was never asked, without a bias.
     pub(crate) fn none() -> Asks
         ensures value { result ≡ record { biases = replicate MAX_BIASES (pos 0); asked = 0; last = None } }
         ensures bias { bias_in result.biases ≡ (λ c. pos 0) }
@@ -34,7 +34,7 @@ impl Asks {
         self.asked = next_count(self.asked);
     }
 
-    /// Counts the ask for a capture.
+    /// Counts an ask for a capture.
     pub(crate) fn count_capture(&mut self, t: i64, active: Mask)
         ensures { self.new ≡ record self.old { asked = next_count self.old.asked; last = Some (t, active.bits) } }
     {
@@ -42,7 +42,7 @@ impl Asks {
         self.last = Some((t, active.bits));
     }
 
-    /// What is added to the numbers of channel `c`.
+    /// Returns what is added to the numbers of channel `c`.
     pub(crate) fn bias(&self, c: u32) -> i64
         requires { c < MAX_BIASES }
         ensures { result ≡ bias_in self.now.biases c }
@@ -60,7 +60,7 @@ impl Asks {
     }
 }
 
-/// One more, or the greatest number where that is reached.
+/// The count after one more, or the largest number once that is reached.
 pub(crate) fn next_count(count: u64) -> u64
     ensures { result ≡ next_count count }
 {

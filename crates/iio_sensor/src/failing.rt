@@ -1,4 +1,4 @@
-//! A driver some of whose asks fail.
+//! A driver that fails some of its asks.
 
 ghost use Rattle.std.specs.Prelude.{◌≡◌, ◌==◌};
 ghost use Rattle.std.specs.List.{list_any};
@@ -11,7 +11,7 @@ use iio_layout::Shape;
 use iio_mask::Mask;
 use std::marker::Model;
 
-/// A `Ramp` whose listed asks fail: the first ask has the number 1.
+/// A `Ramp` that fails the listed asks; the first ask has the number 1.
 #[derive(Debug, Drop)]
 pub struct Failing {
     ramp: Ramp,
@@ -30,7 +30,7 @@ impl Model for Failing {
 }
 
 impl Failing {
-    /// A driver that was never asked, without a bias, whose asks of these numbers fail.
+    /// Makes a driver that was never asked, without a bias; its asks of these numbers fail.
     pub fn new(fails: Vec<u64>) -> Failing
         ensures fresh { IsFresh (driver_of result) }
         ensures fails { (driver_of result).fails ≡ fails.items }

@@ -1,4 +1,4 @@
-//! The scan that a driver gave last.
+//! Holding the scan that a driver gave last.
 
 ghost use Rattle.std.specs.Prelude.{◌≡◌, ◌^◌, ◌+◌, ◌<◌, ◌≤◌, ◌++◌, ℕ, ℤ, List, IsTrue, drop, length, map, take};
 ghost use Rattle.iio_scan_type.specs.Bytes.{element_bytes};
@@ -13,27 +13,27 @@ use iio_layout::{MAX_CHANNELS, Shape, place, scan_size};
 use iio_mask::Mask;
 use iio_scan_type::{Endian, MAX_CHANNEL_SIZE, ScanType};
 
-// The most bytes of a scan.
+// The largest size in bytes of a scan.
 const MOST: usize = MAX_CHANNELS * MAX_CHANNEL_SIZE as usize;
 
-/// A scan, and what it was laid out for: the types of the channels, the mask, and the row. As long as these are the same, so
-/// is the scan, but for its moment.
+/// A scan, and what it was laid out for: the types of the channels, the mask, and the row. As long as these are the same, so is
+/// the scan, except for its moment.
 #[derive(Debug, Drop)]
 pub(crate) struct Held {
-    // 0 where no scan is held.
+    // The number of data channels; 0 if no scan is held.
     inputs: usize,
     types: [ScanType; MAX_CHANNELS],
     stamp: Option<Endian>,
     mask: Mask,
-    // How many moments had come when a scan was laid out last.
+    // The number of moments that had come when a scan was laid out last.
     come: usize,
-    // Where the moment stands, where it does.
+    // The moment's place in the scan, if it has one.
     place: usize,
     scan: [u8; MOST],
 }
 
 impl Held {
-    /// No scan.
+    /// Holds no scan.
     pub(crate) fn none() -> Held
         ensures { result.inputs ≡ 0 }
     {
@@ -69,7 +69,7 @@ impl Held {
             && are_types_of(&self.types, shape)
     }
 
-    /// Gives the scan, with another moment.
+    /// Copies the scan to `out`, with another moment.
     #[inline]
     pub(crate) fn give(&self, shape: &Shape, t: i64, out: &mut [u8])
         requires shape { IsFor self.now shape.now }
@@ -85,7 +85,7 @@ impl Held {
         }
     }
 
-    /// Holds a scan, where its row was the last one's too: rows that change at each ask aren't held.
+    /// Holds a scan if its row is also that of the scan that was laid out before it: rows that change at each ask aren't held.
     #[cold]
     #[inline(never)]
     pub(crate) fn keep(&mut self, shape: &Shape, mask: Mask, come: usize, scan: &[u8])
@@ -145,7 +145,7 @@ fn copy_types(types: &mut [ScanType; MAX_CHANNELS], shape: &Shape)
     }
 }
 
-// Where the moment stands in a scan, or 0 where it doesn't.
+// The place of the moment in a scan, or 0 if it has none.
 fn moment_place(shape: &Shape, mask: Mask) -> usize
     requires { mask.bits < 2 ^ count_of shape.now }
     ensures { MomentStands shape.now mask.bits → result ≡ place_of shape.now mask.bits (length shape.now.channels) }
@@ -157,7 +157,7 @@ fn moment_place(shape: &Shape, mask: Mask) -> usize
     }
 }
 
-// Copies the first bytes, as many as `out` has.
+// Fills `out` with the first bytes.
 #[inline]
 fn copy_front(bytes: &[u8], out: &mut [u8])
     requires { length out.old ≤ length bytes.now }

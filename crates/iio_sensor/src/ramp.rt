@@ -13,8 +13,8 @@ use iio_layout::{Shape, Values, fill_from};
 use iio_mask::Mask;
 use std::marker::Model;
 
-/// A driver whose number for element `k` of channel `c` at the moment `t` is `(t mod 1000) + 1000 * c + k`, where the
-/// remainder is never negative. No ask fails.
+/// A driver whose number for element `k` of channel `c` at the moment `t` is `(t mod 1000) + 1000 * c + k`; the remainder is
+/// never negative. No ask fails.
 #[derive(Debug, Drop)]
 pub struct Ramp {
     pub(crate) asks: Asks,
@@ -31,7 +31,7 @@ impl Model for Ramp {
 }
 
 impl Ramp {
-    /// A ramp that was never asked, without a bias.
+    /// Makes a ramp that was never asked, without a bias.
     pub fn new() -> Ramp
         ensures { IsFresh (driver_of result) }
     {
@@ -68,7 +68,7 @@ impl Sensor for Ramp {
     }
 }
 
-/// The numbers of a ramp at a moment with their biases.
+/// The numbers of a ramp at a moment, with their biases.
 #[derive(Clone, Copy)]
 struct RampValues<'a> {
     biases: &'a [i64; MAX_BIASES],
@@ -86,7 +86,7 @@ impl Values for RampValues<'_> {
     }
 }
 
-/// Writes the scan of the numbers at a moment.
+/// Writes the scan of a ramp's numbers at a moment.
 fn fill_ramp(biases: &[i64; MAX_BIASES], shape: &Shape, active: Mask, t: i64, out: &mut [u8])
     requires bits { active.bits < 2 ^ count_of shape.now }
     requires size { length out.old ≡ scan_size shape.now active.bits }

@@ -15,13 +15,13 @@ use iio_layout::{Rows, Shape, Values, fill_from};
 use iio_mask::Mask;
 use std::marker::Model;
 
-/// A driver that holds each row from its moment to the next, and gives zeros before the first. An element past a
-/// row's width is 0. No ask fails.
+/// A driver that holds each row from its moment to the next one, and gives zeros before the first. An element past a row's
+/// width is 0. No ask fails.
 #[derive(Debug, Drop)]
 pub struct Recorded {
     rows: Rows,
     asks: Asks,
-    // How many moments had come when it was asked last: where a moment is looked for first.
+    // The number of moments that had come when it was asked last: a moment is looked for there first.
     come: usize,
     held: Held,
 }
@@ -39,8 +39,8 @@ impl Model for Recorded {
 }
 
 impl Recorded {
-    /// A driver that was never asked, without a bias, over these rows: their moments rise, and `values` has `width`
-    /// numbers for each.
+    /// Makes a driver that was never asked, without a bias, over these rows: their moments must rise, and `values` must have
+    /// `width` numbers for each.
     pub fn new(rows: Rows) -> Recorded
         requires { IsRecording rows }
         ensures value { result ≡ record { rows = rows; biases = replicate MAX_BIASES (pos 0); asked = 0; last = None } }
@@ -96,7 +96,7 @@ impl Sensor for Recorded {
     }
 }
 
-/// The numbers of the last of the first `count` rows; none where there is none.
+/// The numbers of the last of the first `count` rows; none if `count` is 0.
 #[inline]
 fn row_before(rows: &Rows, count: usize) -> &[i64]
     requires recording { IsRecording rows.now }
@@ -110,8 +110,8 @@ fn row_before(rows: &Rows, count: usize) -> &[i64]
     &rows.values[(count - 1) * width..count * width]
 }
 
-/// How many of the moments, which rise, are at or before `t`. It is looked for at `before` and at one more, where it
-/// mostly is, and then everywhere.
+/// How many of the moments, which rise, are at or before `t`. It tries `before` and the next number first, since it mostly is
+/// one of them, and then looks everywhere.
 #[inline]
 fn come_near(moments: &[i64], before: usize, t: i64) -> usize
     requires { Rises moments.now }
@@ -153,7 +153,7 @@ fn come_by(moments: &[i64], t: i64) -> usize
     moments.partition_point(|moment| *moment <= t)
 }
 
-/// The numbers of a row with their biases.
+/// The numbers of a row, with their biases.
 #[derive(Clone, Copy)]
 struct RowValues<'a> {
     row: &'a [i64],
@@ -189,7 +189,7 @@ fn fill_row(
     fill_from(shape, active, &RowValues { row, biases, shape }, t, out);
 }
 
-/// The value of element `k` of channel `c`.
+/// The value of element `k` of channel `c` by a row, with its bias.
 #[inline]
 fn row_value(row: &[i64], biases: &[i64; MAX_BIASES], shape: &Shape, c: u32, k: u32) -> i64
     requires { c < length shape.now.channels }
@@ -201,7 +201,7 @@ fn row_value(row: &[i64], biases: &[i64; MAX_BIASES], shape: &Shape, c: u32, k: 
         .saturating_sum(number, biases[c as usize])
 }
 
-/// The number at a place of a row, which is 0 past its end.
+/// The number at a place of a row; 0 past the row's end.
 #[inline]
 fn number_at(row: &[i64], place: usize) -> i64
     ensures { result ≡ slice_index_or row.now place (pos 0) }

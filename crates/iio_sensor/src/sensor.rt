@@ -11,7 +11,7 @@ use iio_mask::Mask;
 use std::error::Error;
 use std::fmt;
 
-/// How many biases a driver keeps: one for each channel that a device can have.
+/// The number of biases that a driver keeps: one for each channel that a device can have.
 pub const MAX_BIASES: usize = MAX_CHANNELS;
 
 /// An ask that failed.
@@ -26,14 +26,14 @@ impl fmt::Display for Fault {
 
 impl Error for Fault {}
 
-/// A driver. What it samples, which of its asks fail, and what it has been told and asked is its `driver`, for contracts
-/// alone: no call changes what it samples and which asks fail, no ask changes a bias, each ask is counted, and each ask
-/// that fails is counted besides.
+/// A driver of a device's sensor. `driver` is known to contracts alone: what it samples, which of its asks fail, and what it
+/// has been told and asked. No call changes what it samples or which asks fail, no ask changes a bias, each ask is counted, and
+/// so is each ask that fails.
 pub trait Sensor: Drop {
     ghost driver: { Self → Driver };
 
-    /// One ask for the scan under `active` of the values at `t`. It fails exactly where this ask's number is among
-    /// those that fail; nothing is said of `out` then.
+    /// Asks once for the scan under `active` of the values at `t`, into `out`. Fails exactly if this ask's number is among
+    /// those that fail; then nothing is said of `out`.
     fn capture(&mut self, shape: &Shape, t: i64, active: Mask, out: &mut [u8]) -> Result<(), Fault>
         requires bits { active.bits < 2 ^ count_of shape.now }
         requires size { length out.old ≡ scan_size shape.now active.bits }
@@ -41,14 +41,14 @@ pub trait Sensor: Drop {
         ensures fault { is_err result ≡ ask_fails (driver self.old) }
         ensures scan { OnOk result (out.new ≡ scan_of shape.now active.bits (values_of (driver self.old) shape.now t) t) };
 
-    /// One ask for the value of element 0 of channel `c` at `t`. It fails as `capture` does.
+    /// Asks once for the value of element 0 of channel `c` at `t`. Fails as `capture` does.
     fn raw(&mut self, shape: &Shape, c: u32, t: i64) -> Result<i64, Fault>
         requires { c < length shape.now.channels }
         ensures asked { driver self.new ≡ after_ask (driver self.old) }
         ensures fault { is_err result ≡ ask_fails (driver self.old) }
         ensures value { IfOk result (λ v. v ≡ value_of (driver self.old) shape.now t c 0) };
 
-    /// What is added to the samples of channel `c`.
+    /// Returns what is added to the samples of channel `c`.
     fn bias_of(&self, c: u32) -> i64
         requires { c < MAX_BIASES }
         ensures { result ≡ (driver self.now).bias c };

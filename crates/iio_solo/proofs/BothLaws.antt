@@ -21,7 +21,7 @@ wrote_then (Some xs) w1 w2 a b f g =
 pub sent_all : (w0 w1 : Option (List ℕ)) (text : List ℕ) → Wrote w0 w1 text → Sends w0 w1 text []
 sent_all w0 w1 text wrote = record { sent = text; parts = sym (append-nil text); writes = wrote }
 
--- a part of the next piece, after the pieces before, where these are left
+-- a part of the next piece, after the pieces before it, if these are left
 pub sent_part : (w0 w1 w2 : Option (List ℕ)) (a b c : List ℕ) → Wrote w0 w1 a → IfSome w1 (λ xs. WritesPart xs b w2) → (rest : List ℕ)
     × Sends w0 w2 (a ++ (b ++ c)) rest
 sent_part None w1 w2 a b c f g = (a ++ (b ++ c), record { sent = []; parts = refl; writes = tt })

@@ -11,7 +11,7 @@ use Rattle.iio_script.specs.Keeps.{keeping_view}
 use Rattle.iio_script.specs.Plays.{Prints, WritesText}
 use Rattle.iio_worlds.specs.Solo.{SoloIsTwice, between, kept_of, solo_outcome_of, twice}
 
--- what was kept is that
+-- this is what was kept
 pub kept_prints : (kept is : Keeping) (st : Status) (before after : Option (List ℕ)) → kept ≡ is
     → ((t : List ℕ) × WritesText before after t × Prints (twice (keeping_view is)) st t)
     → (t : List ℕ) × WritesText before after t × Prints (twice (keeping_view kept)) st t
@@ -27,7 +27,7 @@ both_done text before after sends = (sends.sent, sends.writes, record { end = tt
     append_nil [] = refl
     append_nil (x ∷ xs) = ap (λ (ys : List ℕ). x ∷ ys) (append_nil xs)
 
--- or a front part of them
+-- .. or a front part of them
 pub both_part : (text : List ℕ) (before after : Option (List ℕ)) → ((rest : List ℕ) × Sends before after (text ++ between ++ text) rest)
     → (t : List ℕ) × WritesText before after t × Prints (twice (Ok text)) status.WriteFault t
 both_part text before after part = (part.1.sent, part.1.writes, record { rest = part.0; parts = part.1.parts })
@@ -79,7 +79,7 @@ module _ (law : SoloIsTwice) (a : List ℕ) (drivers : List Driver) (kept : Resu
   kept_status None before after is prints = tt
   kept_status (Some input) before after is prints = subst (λ (o : Outcome). HasStatus o st) (same input is) (prints_status (twice kept) st prints.0 prints.2)
 
--- ---- where nothing was written
+-- ---- if nothing was written
 
 front_none : (outcome : Outcome) (xs : List ℕ) → WritesFront xs outcome.printed (Some xs)
 front_none outcome xs = record { front = []; rest = outcome.printed; parts = refl; written = ap (λ (t : List ℕ). Some t) (sym (nil xs)) }

@@ -18,7 +18,7 @@ use iio_sensor::Sensor;
 use iio_worlds::solo_law;
 use std::alloc::Global;
 
-// Writes a text, the line between, and the text again. Where a write fails, a front part of it was written.
+// Writes a text, the line between, and the text again. If a write fails, a front part of this was written.
 fn write_both<K: Sink>(output: &mut K, text: &[u8]) -> Result<(), Failed>
     ensures whole { OnOk result (Sends (K.written output.old) (K.written output.new) (text.now ++ between ++ text.now) []) }
     ensures part { OnErr result ((rest : List ℕ) × Sends (K.written output.old) (K.written output.new) (text.now ++ between ++ text.now) rest) }
@@ -32,7 +32,7 @@ fn write_both<K: Sink>(output: &mut K, text: &[u8]) -> Result<(), Failed>
     write_whole(output, text)
 }
 
-// Writes what was kept, twice, or how the input ends.
+// Writes what was kept, twice, or else how the input ends.
 fn write_kept<K: Sink>(alloc: Global, output: &mut K, kept: Keeping) -> Status
     ensures prints { (text : List ℕ) × WritesText (K.written output.old) (K.written output.new) text × Prints (twice (keeping_view kept)) result text }
     ensures write_fault { result ≡ Status.WriteFault → Rose (K.faults output.old) (K.faults output.new) }
@@ -50,10 +50,11 @@ fn write_kept<K: Sink>(alloc: Global, output: &mut K, kept: Keeping) -> Status
     }
 }
 
-/// Plays the input that a source has left, and writes both worlds of the connection of that name: what the input prints without
-/// the steps of other connections, the line `%%`, and what it prints with them, but for the lines of their steps. The whole input
-/// is read first. Where a line fails, its refusal alone is written; else where a step is against the rules of bystanders, the
-/// refusal of its line, which says `bystander`. Drivers are handed in once, as to [`play`](iio_script::play).
+/// Plays the input that a source has left, and writes both worlds of the connection named `name`: what the input prints
+/// without the steps of other connections, the line `%%`, and what it prints with those steps, but without their lines. The
+/// whole input is read first. If a line fails, only its refusal is written; otherwise, if a step is against the rules of
+/// bystanders, only the refusal of its line, with the word `bystander`. The drivers are handed in once, as to
+/// [`play`](iio_script::play).
 pub fn solo<S: Source, K: Sink>(
     alloc: Global,
     name: &[u8],
@@ -67,7 +68,7 @@ pub fn solo<S: Source, K: Sink>(
         (λ left. HasStatus (solo_outcome_of name.now (map (λ d. ⟦<Plug as Sensor>⟧.driver (Given d)) drivers.items) left) result) }
     ensures words { result ≡ Status.Usage → ⊥ }
     ensures taken { IfSome (S.left input.old) (λ left. TakesAtMost left (input_limit + 1) (S.left input.new)) }
-    // Nothing is written before the input's end.
+    // Nothing is written before the input ends.
     ensures nothing { result ≡ Status.ReadFault → K.written output.new ≡ K.written output.old }
     ensures faults { ShowsFaults S.left S.faults K.written K.faults result input.old input.new output.old output.new }
 {

@@ -1,4 +1,4 @@
--- Devices of a bench of whichever kind; what a call at one that is no averaging device changes.
+-- Devices of a bench of any kind; what a call at one that isn't an averaging device changes.
 use Rattle.std.proofs.Common.{◌≡◌, ℕ, suc, Bool, false, List, [], ◌∷◌, Option, None, Result, Ok, Err, refl, sym, ap, ◌∙◌, arith, cond}
 use Rattle.std.specs.Prelude.{◌==◌, ◌&&◌, not}
 use Rattle.iio_base.specs.Refusals.{first_refusal, unless_refused}
@@ -21,7 +21,7 @@ use Rattle.iio_kinds.specs.Places.{is_hosted}
 use Rattle.iio_kinds.specs.Inner.{has_inner}
 use Rattle.iio_kinds.specs.Station.{any_station}
 
--- ---- maps with places
+-- ---- maps over places
 
 as_from : {A : Type 0} (f g : ℕ → A → A) (i : ℕ) (xs : List A) → ((j : ℕ) (x : A) → f j x ≡ g j x) → map_from f i xs ≡ map_from g i xs
 as_from f g i [] same = refl
@@ -31,12 +31,12 @@ pub kept_from : {A : Type 0} (f : ℕ → A → A) (i : ℕ) (xs : List A) → (
 kept_from f i [] same = refl
 kept_from {A = A} f i (x ∷ xs) same = ap (λ (y : A). y ∷ map_from f (suc i) xs) (same i x) ∙ ap (λ (ys : List A). x ∷ ys) (kept_from f (suc i) xs same)
 
--- a change at one place alone
+-- a change at one place only
 pub placed : {A : Type 0} (f : ℕ → A → A) (g : A → A) (k : ℕ) (xs : List A) → ((j : ℕ) (x : A) → f j x ≡ cond (k == j) (g x) x)
     → map_from f 0 xs ≡ at_place k g xs
 placed f g k xs same = as_from f (λ n x. cond (k == n) (g x) x) 0 xs same ∙ sym (placed_from g k k 0 xs (omega arith))
 
--- ---- kinds but for averaging devices
+-- ---- kinds except averaging devices
 
 pub over_none : (kind : Kind) (k : ℕ) → is_average kind ≡ false → is_over kind k ≡ false
 over_none Input k plain = refl
@@ -58,7 +58,7 @@ unfolding trigger_of
 trigger_told front m dev plain = trigger_plain (kind_at front dev) m dev plain
 
 module _ (front : Front) (dev : ℕ) (plain : is_average (kind_at front dev) ≡ false) where
-  -- a joining changes the device alone
+  -- a joining changes only the device
   pub joined_alone : (change : Station → Station) (m : Machine) → all_joined front dev change m ≡ with_station change dev m
   unfolding with_station
   joined_alone change m =
@@ -67,7 +67,7 @@ module _ (front : Front) (dev : ℕ) (plain : is_average (kind_at front dev) ≡
       (λ j st. ap (λ (b : Bool). cond (dev == j) (change st) (cond (b && is_input (kind_at front j)) (inner_joined dev (shape_at front j) st) st))
       (over_none (kind_at front dev) j plain)))
 
-  -- and so does a leaving
+  -- a leaving changes only the device
   left_alone : (m : Machine) → inner_left front dev m ≡ m
   left_alone m =
       ap (λ (sts : List Station). (let x : Machine = record m { stations = sts } in x))
@@ -108,7 +108,7 @@ module _ (front : Front) (dev : ℕ) (plain : is_average (kind_at front dev) ≡
 -- ---- devices
 
 module _ {X : Type 0} {V : X → Type 0} where
-  -- what holds of a device's place holds whatever it samples by
+  -- what holds of a device's place holds whichever driver it samples by
   module _ (p q : Plug X V → Driver) where
     pub attached_as : (t : ℕ) (d : AnyDevice X V) → is_attached t (attachment_of (any_station p d)) ≡ is_attached t (attachment_of (any_station q d))
     attached_as t (any.Input d) = refl

@@ -1,4 +1,4 @@
--- No two connections have one name.
+-- No two connections have the same name.
 use Rattle.std.proofs.Common.{◌≡◌, ℕ, zero, suc, ◌<◌, true, false, List, [], ◌∷◌, ◌++◌, map, length, length-append, get_or, Some, None, refl, sym, ap, ◌∙◌, inl, inr, arith}
 use Rattle.std.specs.List.{position}
 use Rattle.std.specs.Str.{bytes_eq}
@@ -25,7 +25,7 @@ module _ {S : Type 0} where
       let many : length cs ≡ length cs' = sym (length_names [] cs) ∙ ap (λ (ns : List (List ℕ)). length ns) (sym same) ∙ length_names [] cs' in
       rw (own k, own i) (apart i k d less (omega (arith, within, many)))
 
-  -- a connection more, whose name none has
+  -- another connection, whose name no other has
   pub apart_more : (cs : List (Connection S)) (c : Connection S) (name : List ℕ) → None ≡ position (is_named name) cs → c.name ≡ name → AreApart cs
       → AreApart (cs ++ c ∷ [])
   apart_more cs c name none same apart = λ i k d less within.
@@ -42,7 +42,7 @@ module _ {S : Type 0} where
   or_any (c ∷ cs) zero a b within = refl
   or_any (c ∷ cs) (suc i) a b within = or_any cs i a b (omega (arith, within))
 
-  -- where one of that name stands, the first of that name does
+  -- if there is a connection of that name at a place, the first of that name is there
   pub apart_place : (cs : List (Connection S)) (i : ℕ) (name : List ℕ) → AreApart cs → i < length cs
       → ((d : Connection S) → bytes_eq (get_or cs i d).name name ≡ true) → Some i ≡ position (is_named name) cs
   apart_place [] i name apart within named = absurd (omega (arith, within))

@@ -1,4 +1,4 @@
--- What holds of averaging devices and their bases, where devices have changed.
+-- What holds of averaging devices and their bases after devices have changed.
 use Rattle.std.proofs.Common.{◌≡◌, ◌⊎◌, ℕ, zero, suc, ◌+◌, ◌<◌, ◌≤◌, true, false, not, List, [], ◌∷◌, map, length, set, slice_get, ◌-◌, ◌^◌, Some, inl, inr, refl, sym, ap, subst, ◌∙◌, arith}
 use Rattle.std.proofs.lemmas.List.{map-set}
 use Rattle.iio_desc.specs.Description.{DeviceHead}
@@ -41,7 +41,7 @@ set_there (x ∷ xs) zero (suc i) st' other = refl
 set_there (x ∷ xs) (suc k) zero st' other = refl
 set_there (x ∷ xs) (suc k) (suc i) st' other = set_there xs k i st' (λ e. other (ap (λ (n : ℕ). suc n) e))
 
--- an element beside one that is written
+-- an element other than the one that is written
 pub get_there : {A : Type 0} (xs : List A) (k i : ℕ) (x' x : A) → (i ≡ k → ⊥) → slice_get xs i ≡ Some x → slice_get (set xs k x') i ≡ Some x
 get_there [] k i x' x other at = at
 get_there (y ∷ ys) zero zero x' x other at = absurd (other refl)
@@ -56,13 +56,13 @@ got_there (y ∷ ys) zero (suc i) x' x other at = at
 got_there (y ∷ ys) (suc k) zero x' x other at = at
 got_there (y ∷ ys) (suc k) (suc i) x' x other at = got_there ys k i x' x (λ e. other (ap (λ (n : ℕ). suc n) e)) at
 
--- one that is written
+-- the element that is written
 pub get_here : {A : Type 0} (xs : List A) (k : ℕ) (x x' : A) → slice_get xs k ≡ Some x → slice_get (set xs k x') k ≡ Some x'
 get_here [] k x x' at = absurd (cc)
 get_here (y ∷ ys) zero x x' at = refl
 get_here (y ∷ ys) (suc k) x x' at = get_here ys k x x' at
 
--- written twice
+-- an element that is written twice
 pub set_twice : {A : Type 0} (xs : List A) (k : ℕ) (x x' : A) → set (set xs k x) k x' ≡ set xs k x'
 set_twice [] k x x' = refl
 set_twice (y ∷ ys) zero x x' = refl
@@ -84,7 +84,7 @@ each_from P f none n (x ∷ xs) each zero = subst (λ (k : ℕ). P x (f k x)) (l
 each_from P f none n (x ∷ xs) each (suc i) =
     each_from P f none (suc n) xs (λ j st at. subst (λ (k : ℕ). P st (f k st)) (let e : n + suc j ≡ suc n + j = omega arith in e) (each (suc j) st at)) i
 
--- a list that a change of all makes of another
+-- a list that is another one after a change of all elements
 pub from_each : {A : Type 0} (f : ℕ → A → A) (n : ℕ) (xs ys : List A) → length ys ≡ length xs
     → ((i : ℕ) (x y : A) → slice_get xs i ≡ Some x → slice_get ys i ≡ Some y → y ≡ f (n + i) x) → ys ≡ map_from f n xs
 from_each f n [] [] same each = refl
@@ -103,7 +103,7 @@ same_kind kind Input base window is e plain = cc
 same_kind kind Output base window is e plain = cc
 same_kind kind (Average b w) base window is e plain = cc
 
--- an averaging device is none that isn't
+-- an averaging device isn't a device of another kind
 pub average_other : (heads : List DeviceHead) (j k base window : ℕ) → kind_in heads j ≡ Average base window → is_average (kind_in heads k) ≡ false → j ≡ k → ⊥
 average_other heads j k base window is plain e = same_kind (kind_in heads j) (kind_in heads k) base window is (ap (λ (i : ℕ). kind_in heads i) e) plain
 
@@ -117,14 +117,14 @@ base_same a b c d e = ap base_or e
     base_or (Average base window) = base
     base_or kind = 0
 
--- and it is there
+-- an averaging device is there
 pub average_there : (heads : List DeviceHead) (j base window : ℕ) → kind_in heads j ≡ Average base window → j < length heads
 average_there [] j base window is = absurd (same_kind Input Input base window is refl refl)
 average_there (h ∷ hs) zero base window is = omega arith
 average_there (h ∷ hs) (suc j) base window is = let more = average_there hs j base window is in omega (arith, more)
 
 module _ (triggers first : ℕ) (heads : List DeviceHead) where
-  -- ---- where all devices keep what averaging devices have to do with
+  -- ---- if all devices keep what concerns averaging devices
 
   pub averaged_each : (sts sts' : List Station) → IsAveraged triggers first heads sts → ((i : ℕ) → KeepsInner (station_in sts i) (station_in sts' i))
       → ((j base window : ℕ) → kind_in heads j ≡ Average base window → ((station_in sts' j).captures ≤ (station_in sts' base).captures)
@@ -154,7 +154,7 @@ module _ (triggers first : ℕ) (heads : List DeviceHead) where
       let b = (stands_set sts k st st' at kept base).captures in (omega (arith, own, s, b), omega (arith, most, b))
       ))
 
-  -- ---- where a member comes to a device that is no averaging one, or goes
+  -- ---- if a member joins or leaves a device that isn't an averaging one
 
   pub record KeepsBase (st st' : Station) : Type 0 where
     pub plugged : st'.site.plugged ≡ st.site.plugged
@@ -197,7 +197,7 @@ module _ (triggers first : ℕ) (heads : List DeviceHead) where
             (subst (λ (x : Station). HasInner j (station_in sts base) x) (sym (set_there sts k j st' (average_other heads j k base window is plain)))
             (a.inners j base window is))
 
-  -- ---- where an averaging device and its base change
+  -- ---- if an averaging device and its base change
 
   module _ (sts : List Station) (j base window : ℕ) (st st' b b' : Station) (a : IsAveraged triggers first heads sts)
       (is : kind_in heads j ≡ Average base window)

@@ -1,4 +1,4 @@
--- What holds of a bench, where one device has changed.
+-- What holds of a bench after one device has changed.
 use Rattle.std.proofs.Common.{◌≡◌, ◌⊎◌, ℕ, ◌<◌, Bool, true, false, List, [], ◌∷◌, map, length, set, slice_get, Option, Some, None, IfSome, Result, Ok, Err, inl, inr, refl, sym, ap, subst, ◌∙◌, arith, cond}
 use Rattle.std.specs.Prelude.{◌==◌, ◌||◌, ⊤}
 use Rattle.std.specs.List.{list_any}
@@ -59,7 +59,7 @@ holds_at : (P : Station → Type 0) (st' x : Station) → P x → st' ≡ x → 
 holds_at P st' x p e = subst P (sym e) p
 
 module _ {A : Type 0} (P : Station → Type 0) (change : Station → Station) (st st' : Station) where
-  -- what holds after a call that is made, and where nothing has changed
+  -- what holds after a call that is made, and after one that changed nothing
   pub acts_hold : (answer : Result A Errno) (r : Result A No) → ((x : A) → answer ≡ Ok x → P (change st)) → P st → Acts change answer r st st' → P st'
   acts_hold (Ok x) (Ok y) made was t = holds_at P st' (change st) (made x refl) t.1
   acts_hold (Ok x) (Err (NoErrno e)) made was t = holds_at P st' (change st) (made x refl) t.1
@@ -81,7 +81,7 @@ write_stands (Some c) a v st = standing st _ refl refl refl refl (λ j. refl) re
 pub monitor_stands : (change : MonitorRecord ℕ → MonitorRecord ℕ) (st : Station) → KeepsStanding st (with_site (with_monitor change) st)
 monitor_stands change st = standing st _ refl refl refl refl (λ j. refl) refl
 
--- without a member a device isn't attached
+-- a device without a member isn't attached
 pub none_attached : (t : ℕ) (st : Station) → is_empty st.members ≡ true → is_attached t (attachment_of st) ≡ false
 none_attached t st e = rw e (grind arith)
 
@@ -93,7 +93,7 @@ answered_empty st x e = by st.site.plugged (is_empty st.members) refl refl e
     by true false i j e = absurd (let h = rw (i, j) at e in cc)
     by false false i j e = absurd (let h = rw i at e in cc)
 
--- a device without a member whose trigger is exchanged for one of the first n, or for none
+-- a device without a member whose trigger is replaced by one of the first n, or by none
 pub record KeepsRest (n : ℕ) (st st' : Station) : Type 0 where
   pub place : KeepsPlace st st'
   pub hosted : is_hosted n st ≡ true → is_hosted n st' ≡ true
@@ -160,7 +160,7 @@ take_scans_stand id most Scan before after st st' t = stands_along st _ st' (sca
 take_scans_stand id most Empty before after st st' t = stands_same st st' t.3
 take_scans_stand id most Gone before after st st' t = stands_same st st' t.3
 
--- a device whose members each change
+-- a device with each member changed
 pub inner_mapped : (j : ℕ) (f : Member → Member) → ((x : Member) → is_inner_of j (f x) ≡ is_inner_of j x) → (ms : List Member)
     → list_any (is_inner_of j) (map f ms) ≡ list_any (is_inner_of j) ms
 inner_mapped j f same [] = refl
@@ -169,7 +169,7 @@ inner_mapped j f same (m ∷ ms) =
 
 -- ---- a device and its trigger
 
--- a device isn't attached to another trigger than its own
+-- a device isn't attached to a trigger other than its own
 other_attached : (t u : ℕ) (st : Station) → st.site.trigger ≡ Some t → (u ≡ t → ⊥) → is_attached u (attachment_of st) ≡ false
 other_attached t u st e ne = let other : (t == u) ≡ false = grind (arith, nat_tests) in rw (e, other) refl
 
@@ -200,7 +200,7 @@ module _ (triggers : List TriggerDesc) (states : List State) (sts : List Station
         idle = (bench.each u x p.1).idle;
       }
 
-  -- it takes a place
+  -- the device takes a place
   pub bench_attached : (a : ℕ) → t < length triggers → is_empty st.members ≡ true → st'.site.trigger ≡ Some t → is_empty st'.members ≡ false
       → st'.site.attachment ≡ a
       → s' ≡ record s { attached = with_place k a s.attached } → IsBench triggers (set states t s') (set sts k st')
@@ -210,7 +210,7 @@ module _ (triggers : List TriggerDesc) (states : List State) (sts : List Station
       ∙ places_attached t 0 sts k k a st st' at (omega arith) (none_attached t st empty) (own_attached t st' own some) same)
       (λ u ne. places_none u 0 sts k st st' at (none_attached u st empty) (other_attached t u st' own ne))
 
-  -- it leaves its place
+  -- the device leaves its place
   pub bench_detached : t < length triggers → st.site.trigger ≡ Some t → st'.site.trigger ≡ Some t → is_empty st'.members ≡ true
       → s' ≡ record s { attached = without_place k s.attached } → IsBench triggers (set states t s') (set sts k st')
   bench_detached within was own empty after =
@@ -219,7 +219,7 @@ module _ (triggers : List TriggerDesc) (states : List State) (sts : List Station
       ∙ places_detached t 0 sts k k st st' at (omega arith) (none_attached t st' empty))
       (λ u ne. places_none u 0 sts k st st' at (other_attached t u st was ne) (other_attached t u st' own ne))
 
-  -- it keeps its place
+  -- the device keeps its place
   pub bench_stays : KeepsPlace st st' → s' ≡ s → IsBench triggers (set states t s') (set sts k st')
   bench_stays kept same =
       subst (λ (xs : List State). IsBench triggers xs (set sts k st')) (sym (ap (λ (x : State). set states t x) same ∙ set_same states t s there))

@@ -1,4 +1,4 @@
--- The connections beside the watched one, one after another.
+-- The connections besides the watched one, one after another.
 use Rattle.std.proofs.Common.{◌≡◌, ℕ, ◌+◌, ◌<◌, ◌&&◌, ◌||◌, Bool, true, false, cond, List, [], ◌∷◌, ◌++◌, length, drop, get_or, Option, Some, None, option_map, is_some, refl, sym, ap, ◌∙◌}
 use Rattle.std.specs.Borrow.{Bor}
 use Rattle.std.specs.Option.{option_copied}
@@ -46,11 +46,11 @@ none_join [] es = refl
 none_join (d ∷ ds) es = ap (λ (b : Bool). is_empty d.seats && b) (none_join ds es) ∙ and_more (is_empty d.seats) (none_seated ds) (none_seated es)
 
 module _ {S : Type 0} (seen : S → SeatRecord) where
-  -- the client of a session, where there is one
+  -- the client of a session, if there is one
   abbrev pub session_client : Option (SessionRecord S) → Option ClientRecord
   session_client o = option_map (λ (x : SessionRecord S). client_of seen x.client) o
 
-  -- a session has a seat at a device where it has a place
+  -- a session has a seat at a device if it has a place
   pub held_is : (x : SessionRecord S) (dev : ℕ) (b : Bool) → b ≡ is_some (place_of dev (seats_of seen x.client.held.items))
       → b ≡ has_seat dev (client_of seen x.client)
   held_is x dev b is = is ∙ open_same dev (seats_of seen x.client.held.items)
@@ -60,7 +60,7 @@ module _ {S : Type 0} (seen : S → SeatRecord) where
   lent_client None = refl
   lent_client (Some x) = refl
 
-  -- ---- one alone: one of that name counts as nobody, and so does one that has ended
+  -- ---- one connection: if it has that name it counts as nobody, and so it does if it has ended
 
   pub same_seated : (a : List ℕ) (c : Connection S) (k : ℕ) → bytes_eq c.name a ≡ true → false ≡ one_seated (clients_besides seen a (c ∷ [])) k
   same_seated a c k same = ap (λ (b : Bool). one_seated (cond b [] (with_client seen c.session [])) k) (sym same)
@@ -93,7 +93,7 @@ module _ {S : Type 0} (seen : S → SeatRecord) where
       is ∙ and_last (is_empty (client_of seen x.client).seats) ∙ ap (λ (o : Option (SessionRecord S)). none_seated (with_client seen o [])) (sym some)
       ∙ ap (λ (b : Bool). none_seated (cond b [] (with_client seen c.session []))) (sym other)
 
-  -- ---- the first, and the others
+  -- ---- the first connection, and the others
 
   seated_first : (a : List ℕ) (c : Connection S) (cs : List (Connection S)) (k : ℕ)
       → one_seated (clients_besides seen a (c ∷ cs)) k ≡ (one_seated (clients_besides seen a (c ∷ [])) k || one_seated (clients_besides seen a cs) k)
@@ -159,7 +159,7 @@ module _ {S : Type 0} (seen : S → SeatRecord) where
       → (none_seated (clients_besides seen a cs) && none_seated (clients_besides seen a ds)) ≡ none_seated (clients_besides seen a (cs ++ ds))
   none_parts a cs ds = sym (ap none_seated (clients_parts a cs ds) ∙ none_join (clients_besides seen a cs) (clients_besides seen a ds))
 
-  -- one has the device open where one of the first part has, or else one of the second
+  -- a connection has the device open if one of the first part has, or else one of the second
   pub seated_before : (a : List ℕ) (cs ds : List (Connection S)) (k : ℕ) (x : Bool) → x ≡ true → x ≡ one_seated (clients_besides seen a cs) k
       → x ≡ one_seated (clients_besides seen a (cs ++ ds)) k
   seated_before a cs ds k x is first = is ∙ ap (λ (b : Bool). b || one_seated (clients_besides seen a ds) k) (sym is ∙ first) ∙ seated_parts a cs ds k
@@ -170,7 +170,7 @@ module _ {S : Type 0} (seen : S → SeatRecord) where
   seated_after a cs ds k x y is first second =
       second ∙ ap (λ (b : Bool). b || one_seated (clients_besides seen a ds) k) (sym is ∙ first) ∙ seated_parts a cs ds k
 
-  -- and none has any where none of the first part has, and none of the second
+  -- none has a device open if none of the first part has, and none of the second
   pub none_before : (a : List ℕ) (cs ds : List (Connection S)) (x : Bool) → x ≡ false → x ≡ none_seated (clients_besides seen a cs)
       → x ≡ none_seated (clients_besides seen a (cs ++ ds))
   none_before a cs ds x is first = is ∙ ap (λ (b : Bool). b && none_seated (clients_besides seen a ds)) (sym is ∙ first) ∙ none_parts a cs ds
@@ -180,7 +180,7 @@ module _ {S : Type 0} (seen : S → SeatRecord) where
       → y ≡ none_seated (clients_besides seen a (cs ++ ds))
   none_after a cs ds x y is first second = second ∙ ap (λ (b : Bool). b && none_seated (clients_besides seen a ds)) (sym is ∙ first) ∙ none_parts a cs ds
 
-  -- ---- the first one of a name
+  -- ---- the first connection of a name
 
   abbrev client_at : Option (Connection S) → Option ClientRecord
   client_at o = elim o [ None ↦ None | Some c ↦ session_client c.session ]
@@ -194,7 +194,7 @@ module _ {S : Type 0} (seen : S → SeatRecord) where
       by true rest = refl
       by false rest = rest
 
-  -- its session, as it is lent
+  -- the session of that one, as it is lent
   pub lent_found : (a : List ℕ) (cs : List (Connection S)) (c : Bor (Connection S)) (own : Option (Bor (SessionRecord S))) (found : Option (Bor (Connection S)))
       → found ≡ Some c → option_copied found ≡ connection_named a cs → option_copied own ≡ c.now.session → client_by seen own ≡ client_named seen a cs
   lent_found a cs c own found is named same = lent_client own ∙ ap session_client same ∙ ap client_at (ap option_copied (sym is) ∙ named) ∙ client_found a cs
@@ -204,22 +204,22 @@ module _ {S : Type 0} (seen : S → SeatRecord) where
   lent_nowhere a cs own found is named none =
       ap (λ (o : Option (Bor (SessionRecord S))). client_by seen o) none ∙ ap client_at (ap option_copied (sym is) ∙ named) ∙ client_found a cs
 
-  -- ---- all but one
+  -- ---- all connections except one
 
-  -- one of that name counts as nobody
+  -- a connection of that name counts as nobody
   pub besides_between : (a : List ℕ) (cs ds : List (Connection S)) (c : Connection S) → bytes_eq c.name a ≡ true
       → clients_besides seen a (cs ++ ds) ≡ clients_besides seen a (cs ++ c ∷ ds)
   besides_between a [] ds c is = rw is refl
   besides_between a (e ∷ cs) ds c is =
       ap (λ (es : List ClientRecord). cond (bytes_eq e.name a) es (with_client seen e.session es)) (besides_between a cs ds c is)
 
-  -- and one of another isn't the first of that name
+  -- a connection of another name isn't the first of that name
   pub named_between : (a : List ℕ) (cs ds : List (Connection S)) (c : Connection S) → bytes_eq c.name a ≡ false
       → client_named seen a (cs ++ ds) ≡ client_named seen a (cs ++ c ∷ ds)
   named_between a [] ds c is = rw is refl
   named_between a (e ∷ cs) ds c is = ap (λ (o : Option ClientRecord). cond (bytes_eq e.name a) (session_client e.session) o) (named_between a cs ds c is)
 
--- ---- the first one of a name
+-- ---- the first connection of a name
 
 module _ {S : Type 0} (a : List ℕ) where
   abbrev or_else : Option (Connection S) → Option (Connection S) → Option (Connection S)
@@ -235,7 +235,7 @@ module _ {S : Type 0} (a : List ℕ) where
       by true rest = refl
       by false rest = rest
 
-  -- it is the first part's, or else the second's
+  -- it is that of the first part, or else that of the second
   pub named_before : (cs ds : List (Connection S)) (c : Bor (Connection S)) (found : Option (Bor (Connection S))) → found ≡ Some c
       → option_copied found ≡ connection_named a cs
       → Some c.now ≡ connection_named a (cs ++ ds)
@@ -247,7 +247,7 @@ module _ {S : Type 0} (a : List ℕ) where
   named_after cs ds found other is named last =
       last ∙ ap (λ (o : Option (Connection S)). or_else o (connection_named a ds)) (ap option_copied (sym is) ∙ named) ∙ named_parts cs ds
 
-  -- and from a place on
+  -- the first connection of a name from a place on
   pub named_on : (cs : List (Connection S)) (i : ℕ) (c : Connection S) (b : Bool) → i < length cs → c ≡ get_or cs i c → b ≡ bytes_eq c.name a
       → connection_named a (drop i cs) ≡ cond b (Some c) (connection_named a (drop (i + 1) cs))
   named_on cs i c b within is first =

@@ -19,7 +19,7 @@ use Rattle.iio_system.specs.Connection.{HasHeard, IsHearing}
 script_isnt_server : Script ≡ Server → ⊥
 script_isnt_server e = absurd (cc)
 
--- after a feed in a script nothing whole is left
+-- after a feed in a script there is nothing whole left
 left_is : (front : Front) (a b : State) (all left : Scanned) (before after : List ℕ) (going : Going) → (going ≡ On → left.items ≡ [])
     → Feeds Script front a all before after b left going
     → left ≡ no_item all.next

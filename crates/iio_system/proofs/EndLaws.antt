@@ -1,4 +1,4 @@
--- A connection has ended exactly where its stream is at its end.
+-- A connection has ended exactly if its stream is at its end.
 use Rattle.std.proofs.Common.{◌≡◌, ℕ, ◌==◌, ◌||◌, nat_lt, Bool, true, false, cond, List, [], ◌∷◌, ◌++◌, length, Result, Ok, refl, sym, ap, ◌∙◌, subst, true≢false}
 use Rattle.iio_text.specs.declared.errors.Errno.TheVariants.{E2BIG, EFBIG}
 use Rattle.iiod_grammar.specs.declared.command.Refused.{Refused}

@@ -46,12 +46,12 @@ user_of_line name (l ∷ ls) = by (bytes_eq l.user.who name) (user_of_line name 
 pub user_is : (m : Told) (name : List ℕ) (l : Line) → line_named name m.lines ≡ Some l → user_named name (registry_of m).users ≡ Some l.user
 user_is m name l is = user_of_line name m.lines ∙ ap (λ (o : Option Line). option_map user_of o) is
 
--- nobody comes
+-- no connection is new
 none_new : (s : Setup) (m : Told) (name bytes : List ℕ) (l : Line) → line_named name m.lines ≡ Some l
     → newcomers s (Arrived name bytes) (registry_of m).users ≡ []
 none_new s m name bytes l is = ap (λ (o : Option ConnectionRecord). cond (is_some o) [] (new_user s name ∷ [])) (user_is m name l is)
 
--- its lines after its bytes came
+-- the lines after the connection's bytes came
 arrived_lines : (s : Setup) (m : Told) (name bytes : List ℕ) (l : Line) → line_named name m.lines ≡ Some l
     → (step s m (Arrived name bytes)).lines ≡ map (line_after s (registry_of m) (Arrived name bytes)) m.lines
 arrived_lines s m name bytes l is =
@@ -71,7 +71,7 @@ arrived_begun s m name bytes l own =
     ap (λ (b : Bool). cond b (scanner_after l.begun bytes) l.begun) (ap (λ (w : List ℕ). bytes_eq name w) (name_same l.user.who name own) ∙ name_itself name)
 
 module _ {S : Type 0} (seen : S → SeatRecord) where
-  -- the session as it is when its bytes came
+  -- the session when its bytes came
   pub is_hearing : (s : Setup) (m : Told) (front : Front) (told : Option Machine) (cs : List (Connection S)) (name bytes : List ℕ) (l : Line)
       (x : SessionRecord S)
       → Stands seen s m front told cs → line_named name m.lines ≡ Some l → IsLive seen front m l x → is_in (names_of m) name ≡ true
@@ -94,7 +94,7 @@ module _ {S : Type 0} (seen : S → SeatRecord) where
         room = room_after s m (Arrived name bytes) (length (items_from l.begun bytes)) room;
       }
 
--- ---- what stands then
+-- ---- what holds afterwards
 
 -- a connection has a client with nothing on it
 abbrev pub HasNothing : Told → List ℕ → Type 0
@@ -114,7 +114,7 @@ pub record HasArrived {S : Type 0} (seen : S → SeatRecord) (front : Front) (n 
   pub others : OthersAre seen front n name n.lines cs
 
 module _ {S : Type 0} (seen : S → SeatRecord) where
-  -- its line once they were heard
+  -- its line after they were heard
   line_heard : (s : Setup) (front : Front) (n : Told) (name : List ℕ) (begun : Scanner) (bytes : List ℕ) (cs : List (Connection S))
       → HasArrived seen front n name begun bytes cs
       → (l : Line) × (line_named name (steps s n (heard name (items_from begun bytes))).lines ≡ Some l) × (l.user.ended ≡ is_at_end (scanner_after begun bytes))
@@ -168,7 +168,7 @@ module _ {S : Type 0} (seen : S → SeatRecord) where
             line.2 line.3 said.session client gone);
       }
 
-  -- one that was there
+  -- a connection that was there
   pub has_arrived : (s : Setup) (m : Told) (front : Front) (told : Option Machine) (cs : List (Connection S)) (name bytes : List ℕ) (l : Line)
       (x : SessionRecord S)
       → Stands seen s m front told cs → line_named name m.lines ≡ Some l → IsLive seen front m l x
@@ -188,7 +188,7 @@ module _ {S : Type 0} (seen : S → SeatRecord) where
       not_end (InPayload pending count begun) h = refl
 
 module _ {S : Type 0} (seen : S → SeatRecord) where
-  -- once it has ended it has nothing
+  -- after it has ended it has nothing
   pub has_nothing : (s : Setup) (n : Told) (front : Front) (told : Option Machine) (name : List ℕ) (begun : Scanner) (bytes : List ℕ) (x : SessionRecord S)
       → IsHearing seen s n front told name begun bytes x → is_at_end begun ≡ false → is_at_end (scanner_after begun bytes) ≡ true
       → HasNothing (steps s n (heard name (items_from begun bytes))) name
@@ -211,7 +211,7 @@ module _ (s : Setup) (m : Told) (name bytes : List ℕ) (begun : Scanner) (live 
   pub fed_state : state_after s m (Feed name bytes) ≡ steps s (step s m (Arrived name bytes)) (heard name (items_from begun bytes))
   fed_state = ap (λ (es : List Event). steps s m es) events_are
 
-  -- where it has ended then or not
+  -- whether it has then ended or not
   pub fed_lines : (e : Bool) → has_ended name (registry_of (steps s (step s m (Arrived name bytes)) (heard name (items_from begun bytes)))).users ≡ e
       → step_lines s m (Feed name bytes) ≡ printed (name ∷ quoted (texts s (step s m (Arrived name bytes)) (heard name (items_from begun bytes))) ∷ [])
       ++ cond e (closed_line name) []
@@ -229,7 +229,7 @@ live_user m name l e is live = ap (λ (o : Option ConnectionRecord). ended_by o)
 pub begun_line : (m : Told) (name : List ℕ) (l : Line) → line_named name m.lines ≡ Some l → begun_by name m.lines ≡ l.begun
 begun_line m name l is = ap (λ (o : Option Line). elim o [ None ↦ InLine [] | Some x ↦ x.begun ]) is
 
--- whether it has ended then
+-- whether it has then ended
 module _ {S : Type 0} (seen : S → SeatRecord) where
   pub ended_heard : (s : Setup) (front : Front) (n : Told) (name : List ℕ) (begun : Scanner) (bytes : List ℕ) (cs : List (Connection S))
       → HasArrived seen front n name begun bytes cs

@@ -40,7 +40,7 @@ line_there name (x ∷ ls) l is = by (bytes_eq x.user.who name) is (line_there n
     by false is rest = rest is
 
 module _ {S : Type 0} (seen : S → SeatRecord) where
-  -- what a feed leaves: its lines, and what stands then
+  -- what a feed leaves: its lines, and the state afterwards
   abbrev pub Leaves : Setup → Told → Front → (name bytes : List ℕ) → Option Machine → List (Connection S) → (before after : List ℕ) → Type 0
   Leaves s m front name bytes told' cs before after =
       (after ≡ before ++ step_lines s m (Feed name bytes)) × Stands seen s (state_after s m (Feed name bytes)) front told' cs
@@ -69,7 +69,7 @@ module _ {S : Type 0} (seen : S → SeatRecord) where
             (λ ends. has_nothing seen s n front told name begun bytes x hears arrived.open_before ends) within apart here)),
       )
 
-  -- one that is there
+  -- a connection that is there
   pub fed_there : (s : Setup) (m : Told) (front : Front) (told told' : Option Machine) (cs : List (Connection S)) (name bytes before after : List ℕ) (i : ℕ)
       (d : Connection S) (new : Option (SessionRecord S))
       → Stands seen s m front told cs → Every (CanJoinMore (suc (length bytes))) m.stations
@@ -106,7 +106,7 @@ module _ {S : Type 0} (seen : S → SeatRecord) where
           at_get : i < length cs → with_session seen new (get_or cs i d) ≡ get_or cs i d → slice_get cs i ≡ Some (with_session seen new (get_or cs i d))
           at_get within same = slice_get-get_or cs i d within ∙ ap (λ (c : Connection S). Some c) (sym same)
 
-  -- one that comes
+  -- a connection that is new
   pub fed_new : (s : Setup) (m : Told) (front : Front) (told told' : Option Machine) (cs : List (Connection S)) (name bytes before after : List ℕ)
       (x : SessionRecord S) (new : Option (SessionRecord S))
       → Stands seen s m front told cs → Every (CanJoinMore (suc (length bytes))) m.stations

@@ -19,7 +19,7 @@ at_end AtEnd h = refl
 at_end (InLine begun) h = cc
 at_end (InPayload pending count begun) h = cc
 
--- a session says that it has ended exactly where its stream is at its end
+-- a session says that it has ended exactly if its stream is at its end
 ended_is : (e : Bool) (stream : Scanned) (next : Scanner) → (IsTrue e ↔ (stream ≡ no_item AtEnd)) → stream ≡ no_item next → e ≡ is_at_end next
 ended_is e stream next iff is = by e (is_at_end next) refl refl
   where

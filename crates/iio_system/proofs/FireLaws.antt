@@ -1,4 +1,4 @@
--- Handlings one after another, and a poll that they follow.
+-- Handlings one after another, and a poll before them.
 use Rattle.std.proofs.Common.{◌≡◌, ℕ, zero, suc, ◌+◌, ◌^◌, ◌<◌, ◌≤◌, ℤ, Bool, true, false, cond, List, [], ◌∷◌, ◌++◌, length, codes, Option, Some, None, refl, sym, ap, ◌∙◌, subst, append-nil, arith}
 use Rattle.std.specs.Prelude.{◌==◌, not}
 use Rattle.std.proofs.lemmas.Bool.Decides.{nat_tests}
@@ -41,7 +41,7 @@ use Rattle.iio_system.proofs.MoveLaws.{handle_holds, handle_line, machine_told, 
 
 -- ---- one handling
 
--- nothing is taken off where the device has no entry
+-- nothing is removed if the device has no entry
 without_none : (dev : ℕ) (es : List Handed) → entry_of dev es ≡ None → without_entry dev es ≡ es
 without_none dev es none = filter_none (λ (e : Handed). e.dev == dev) es none
 
@@ -58,7 +58,7 @@ module _ {X : Type 0} {V : X → Type 0} (driver : Plug X V → Driver) where
     own : entry_in trigger dev (bench_machine driver b) ≡ entry_of dev (entries_at m.triggers trigger)
     own = ap (λ (x : Machine). entry_in trigger dev x) (machine_told driver s m b cs h)
 
-    -- where it has none, nothing changes
+    -- if the device has none, nothing changes
     stays : entry_of dev (entries_at m.triggers trigger) ≡ None → Holds driver s m b' cs
     stays none = record {
       front_is = front ∙ h.front_is;
@@ -72,7 +72,7 @@ module _ {X : Type 0} {V : X → Type 0} (driver : Plug X V → Driver) where
       lines = subst (λ (f : Front). AreLines seen_of f m m.lines cs) (sym front) h.lines;
     }
 
-    -- what is answered of an entry, by the told state
+    -- the answer to an entry, by the told state
     answer_own : (o : Option Handed) → entry_of dev (entries_at m.triggers trigger) ≡ o
         → entry_answer (kind_at (bench_front b) dev) (entry_in trigger dev (bench_machine driver b)) (station_at (bench_machine driver b) dev)
         ≡ entry_answer (kind_at (bench_front b) dev) o (station_at (bench_machine driver b) dev)
@@ -116,7 +116,7 @@ order_bound : (low high : ℕ) (es : List Handed) → InOrder low high es → lo
 order_bound low high [] order = order
 order_bound low high (e ∷ es) order = let h = order_bound (suc e.dev) high es order.1 in let k = order.0 in omega (arith, h, k)
 
--- at the end there is none
+-- at the end there are none
 order_none : (low high : ℕ) (es : List Handed) → high ≤ low → InOrder low high es → es ≡ []
 order_none low high [] past order = refl
 order_none low high (e ∷ es) past order = absurd (let h = order_bound (suc e.dev) high es order.1 in let k = order.0 in omega (arith, h, k, past))
@@ -151,7 +151,7 @@ first_below dev low high (e ∷ es) first order =
 -- ---- handlings one after another
 
 module _ {X : Type 0} {V : X → Type 0} (driver : Plug X V → Driver) where
-  -- some handlings are done: those of the entries that are left, of devices from `low` on, make up the rest
+  -- some handlings are done; those of the entries that are left, for devices from `low` on, are the rest
   pub record IsLeft (s : Setup) (m : Told) (trigger low high : ℕ) (b : Bench X V) (cs : List (Connection Seat)) (before now : List ℕ) : Type 0 where
     pub state : Told
     pub entries : List Handed
@@ -169,7 +169,7 @@ module _ {X : Type 0} {V : X → Type 0} (driver : Plug X V → Driver) where
       subst (λ (n : Told). Holds driver s n b cs) (sym (x.last ∙ ap (λ (es : List Handed). steps s x.state (handlings trigger es)) none)) x.holds,
     )
 
-    -- the first entry at the bench's trigger is the first that is left
+    -- the first entry at the bench's trigger is the first one that is left
     first_left : first_due (entries_at (triggers_of b) trigger) ≡ first_due x.entries
     first_left =
         ap (λ (y : Machine). first_due (entries_at y.triggers trigger)) (machine_told driver s x.state b cs x.holds) ∙ ap first_due x.there
@@ -181,12 +181,12 @@ module _ {X : Type 0} {V : X → Type 0} (driver : Plug X V → Driver) where
     pub left_none : first_due (entries_at (triggers_of b) trigger) ≡ None → Plays driver (handlings trigger) s m trigger b cs before now
     left_none none = left_nothing (no_first x.entries (sym first_left ∙ none))
 
-    -- none is of a device that isn't there
+    -- there is no entry for a device that isn't there
     pub left_past : (dev : ℕ) → first_due (entries_at (triggers_of b) trigger) ≡ Some dev → high ≤ dev
         → Plays driver (handlings trigger) s m trigger b cs before now
     left_past dev first past = let h = first_below dev low high x.entries (sym first_left ∙ first) x.order in absurd (omega (arith, h, past))
 
-  -- what the handling of an entry, or of none, makes
+  -- what the handling of an entry makes, or of none
   abbrev Took : Setup → Told → (trigger dev : ℕ) → Bench X V → List (Connection Seat) → (before after : List ℕ) → Option Handed → Type 0
   Took s n trigger dev b' cs before after o =
       (after ≡ before ++ texts s n (elim o [ None ↦ [] | Some e ↦ Handled trigger dev ∷ [] ]))
@@ -241,7 +241,7 @@ still_go k old new less can rise = λ i d within. let h = rise (2 ^ 63) (λ j e 
 
 -- ---- a poll, and the handlings that follow it
 
--- the entries of a poll are of devices in their order
+-- the entries of a poll are in the order of devices
 poll_order : (dev trigger : ℕ) (t : ℤ) (ds : List Attachment) → InOrder dev (dev + length ds) (entries_from dev trigger t ds)
 poll_order dev trigger t [] = omega arith
 poll_order dev trigger t (d ∷ ds) =
@@ -265,14 +265,14 @@ misses made (e ∷ es) n missed answered = refl
 module _ {X : Type 0} {V : X → Type 0} (driver : Plug X V → Driver) where
   module _ (trigger : ℕ) (t : ℤ) (b b' : Bench X V) (cs : List (Connection Seat)) (front : bench_front b' ≡ bench_front b)
       (told : bench_machine driver b' ≡ machine_after_poll trigger t (bench_machine driver b)) (s : Setup) (m : Told) (h : Holds driver s m b cs) where
-    -- what a poll makes, where nothing is outstanding
+    -- what a poll makes if nothing is outstanding
     abbrev made : List Handed
     made = entries_from 0 trigger t (attachments_of (registry_of m))
 
     poll_told : (answer : Answer) → answer ≡ polled_answer trigger t (bench_machine driver b) → answer ≡ polled_answer trigger t (machine_of m)
     poll_told answer answered = answered ∙ ap (λ (x : Machine). polled_answer trigger t x) (machine_told driver s m b cs h)
 
-    -- a missed poll is all
+    -- a poll that is missed is all that happens
     pub fire_missed : (before after name : List ℕ) (answer : Answer) (n : ℕ) → answer ≡ Missed n → name ≡ trigger_name (bench_front b') trigger
         → answer ≡ polled_answer trigger t (bench_machine driver b)
         → after ≡ before ++ printed (codes "poll" ∷ name ∷ polled_words answer)
@@ -286,7 +286,7 @@ module _ {X : Type 0} {V : X → Type 0} (driver : Plug X V → Driver) where
           poll_holds driver trigger t b b' cs front told s m h,
         )
 
-    -- one that is accepted
+    -- a poll that is accepted
     module _ (many : length b.triggers.items ≡ length b.described.items) (within : trigger < length (bench_front b).triggers) where
       polled_entries : entries_at (step s m (Polled trigger t)).triggers trigger ≡ poll_made made (entries_at m.triggers trigger)
       polled_entries =

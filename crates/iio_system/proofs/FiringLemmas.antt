@@ -90,7 +90,7 @@ pub entry_answer_is : (kind kind' : Kind) (o o' : Option Handed) (ended ended' :
     → r ≡ entry_became kind' o' ended' st'
 entry_answer_is kind kind' o o' ended ended' st st' r sameK same sameE sameS e = rw (sameK, same, sameE, sameS) e
 
--- the room of a device is the one that stands at its place
+-- the room of a device is that of the device at its place
 pub room_is : {D : Type 0} (f : D → List ℕ) (ds : List D) (k : ℕ) (d d' : D) → slice_get ds k ≡ Some d → option_map_or f (slice_get (set ds k d') k) [] ≡ f d'
 room_is f [] k d d' at = absurd (cc)
 room_is f (x ∷ xs) zero d d' at = refl

@@ -1,4 +1,4 @@
--- A bench as it is made: one device after another.
+-- A bench that is made, one device after another.
 use Rattle.std.proofs.Common.{◌≡◌, ℕ, zero, suc, ◌+◌, ◌-◌, ◌<◌, ◌≤◌, true, false, not, List, [], ◌∷◌, ◌++◌, map, fold, length, slice_get, slice_index_or, take, Option, Some, None, IfSome, option_map, refl, sym, ap, subst, ◌∙◌, arith}
 use Rattle.std.specs.Prelude.{All}
 use Rattle.std.specs.List.{list_any}
@@ -105,7 +105,7 @@ module _ {D : Type 0} (view : D → DeviceView Queue) (drivers : List Driver) wh
         let others : map f bs ≡ map (λ (d : D). (view d).standing.captures) ds = cc in
         captures_made (suc n) bs ds xs others tail i a (omega (arith, within))
 
--- without inner members an input device is told as it stands
+-- an input device without inner members is told as it is
 unnamed : (ms : List (Membership Queue)) → map (with_inner_name []) (map member_of ms) ≡ map member_of ms
 unnamed [] = refl
 unnamed (m ∷ ms) = ap (λ (xs : List Member). member_of m ∷ xs) (unnamed ms)
@@ -119,7 +119,7 @@ module _ {X : Type 0} {V : X → Type 0} (driver : Plug X V → Driver) where
       ∙ ap (λ (ms : List Member). (let st : Station = record (station_by driver d.device) { members = ms } in st))
       (unnamed (view_by driver d.device).standing.members)
 
--- the devices so far, and one more
+-- the devices so far, and another one
 pub pushed : {A D B : Type 0} (f : A → B) (h : D → B) (xs ys : List A) (ds : List D) (a : A) (d : D) → ys ≡ xs ++ a ∷ [] → map f xs ≡ map h ds → f a ≡ h d
     → map f ys ≡ map h (ds ++ d ∷ [])
 pushed {A} {D} {B} f h xs ys ds a d more same own =
@@ -170,7 +170,7 @@ module _ {A : Type 0} where
   unmoved_more f (y ∷ ys) a all own zero d within = all zero d (omega arith)
   unmoved_more f (y ∷ ys) a all own (suc i) d within = unmoved_more f ys a (λ j e inside. all (suc j) e (omega (arith, inside))) own i d (omega (arith, within))
 
-  -- that many are there beside those before
+  -- that many are there, after those before
   pub record Adding {E : Type 0} (made : E → Station) (headed : E → DeviceHead) (f : A → Station) (face : A → DeviceHead) (number captures : A → ℕ)
       (descs : List E) (before : List A) (done left : List E) (devices : List A) : Type 0 where
     pub whole : done ++ left ≡ descs
@@ -187,7 +187,7 @@ module _ {A : Type 0} where
       there : done ++ x ∷ left ≡ descs
       there = ap (λ (xs : List E). done ++ xs) (sym next) ∙ adding.whole
 
-      -- it is one of the description's, and there is a number for it
+      -- it is one of the description's, and has a number
       pub one_next : (P : E → Type 0) → All P descs → P x
       one_next P all = left_of P done (x ∷ left) (subst (λ (xs : List E). All P xs) (sym there) all) 0 x (omega arith)
 
@@ -239,7 +239,7 @@ module _ {A : Type 0} (f : A → Station) (face : A → DeviceHead) (number capt
   formed_next made headed n descs done rest left devices x next adding all =
       one_next made headed f face number captures descs before done rest left devices devices x next adding (IsWellFormedAverage n) all
 
--- ---- what holds of it
+-- ---- what holds of the bench
 
 -- no station has a member
 abbrev pub AreBare : List Station → Type 0
@@ -308,7 +308,7 @@ firsts_few drivers inputs outputs means n few =
     let e = length_map_is (first_mean_station inputs) means in
     omega (arith, few, a, b, c, d, e)
 
--- ---- what averaging devices have to do with
+-- ---- what concerns averaging devices
 
 -- the base of an averaging device is one of the input devices
 kind_input : (inputs : List DeviceRecord) (rest : List DeviceHead) (k : ℕ) → k < length inputs → kind_in (map input_head inputs ++ rest) k ≡ Input
@@ -322,7 +322,7 @@ shape_input [] rest k within = absurd (omega (arith, within))
 shape_input (x ∷ xs) rest zero within = refl
 shape_input (x ∷ xs) rest (suc k) within = shape_input xs rest k (omega (arith, within))
 
--- heads of which none is of an averaging device
+-- heads without one of an averaging device
 abbrev ArePlain : List DeviceHead → Type 0
 ArePlain [] = Unit {0}
 ArePlain (h ∷ hs) = (is_average h.kind ≡ false) × ArePlain hs
@@ -444,7 +444,7 @@ module _ (inputs : List DeviceRecord) (outputs : List OutputRecord) where
       ∷ map (mean_head_over (map input_head inputs ++ map output_head outputs)) xs) (means_shape x (all 0 x (omega arith)))
       ∙ ap (λ (hs : List DeviceHead). average_head inputs x ∷ hs) (means_heads xs (λ i d within. all (suc i) d (omega (arith, within))))
 
-  -- all devices that are made
+  -- all devices that were made
   pub added_stations : (drivers : List Driver) (means : List AverageRecord) (heads : List DeviceHead) (first sts all : List Station)
       → All (IsWellFormedAverage (length inputs)) means
       → first ≡ map (first_station drivers) inputs → sts ≡ first ++ map first_out_station outputs → heads ≡ map input_head inputs ++ map output_head outputs
@@ -466,12 +466,12 @@ module _ (inputs : List DeviceRecord) (outputs : List OutputRecord) where
       ∙ ap (λ (xs : List DeviceHead). (map input_head inputs ++ map output_head outputs) ++ xs) (means_heads means formed)
       ∙ appended (map input_head inputs) (map output_head outputs) (map (average_head inputs) means)
 
--- over more devices
+-- the same with more devices
 pub formed_more : (n m : ℕ) (means : List AverageRecord) → n ≤ m → All (IsWellFormedAverage n) means → All (IsWellFormedAverage m) means
 formed_more n m means less all i d within =
     let is = all i d within in record { over = (let o = is.over in omega (arith, o, less)); some = is.some; bounded = is.bounded }
 
--- each device is plugged, is on one of the first n triggers or on none, and has made no capture
+-- each device is plugged, has one of the first n triggers or none, and has made no capture
 abbrev pub AreFresh : ℕ → List Station → Type 0
 AreFresh n [] = Unit {0}
 AreFresh n (st ∷ sts) = (st.captures ≡ 0) × (st.site.plugged ≡ true) × IfSome st.site.trigger (λ t. t < n) × AreFresh n sts

@@ -133,7 +133,7 @@ module _ (front : Front) (o : Option Handed) (dev : ℕ) (m : Machine) where
       bench_each triggers states m.stations (machine_after_entry front o dev m).stations bench (length_from handled_at 0 m.stations)
       (λ i. (handled_kept i).place)
 
-  -- a station after it
+  -- a station afterwards
   there_from : (f : ℕ → Station → Station) (n : ℕ) (sts : List Station) (i : ℕ) (st : Station) → slice_get sts i ≡ Some st
       → station_in (map_from f n sts) i ≡ f (n + i) st
   there_from f n [] i st at = absurd (cc)
@@ -144,7 +144,7 @@ module _ (front : Front) (o : Option Handed) (dev : ℕ) (m : Machine) where
   after_is : (i : ℕ) (st : Station) → slice_get m.stations i ≡ Some st → station_in (machine_after_entry front o dev m).stations i ≡ handled_at i st
   after_is i st at = there_from handled_at 0 m.stations i st at ∙ ap (λ (k : ℕ). handled_at k st) (let e : 0 + i ≡ i = omega arith in e)
 
-  -- an averaging device makes a mean only with a capture of its base
+  -- an averaging device makes a mean only after a capture of its base
   module _ (j base window : ℕ) (st b : Station) (is : kind_at front j ≡ Average base window) (input : kind_at front base ≡ Input)
       (at : slice_get m.stations j ≡ Some st) (under : slice_get m.stations base ≡ Some b)
       (fewer : st.captures ≤ b.captures) where
@@ -302,7 +302,7 @@ module _ (front : Front) (dev : ℕ) (m : Machine) where
 
 -- ---- no entry
 
--- without one nothing changes
+-- if there is no entry, nothing changes
 pub nothing_handled : (front : Front) (dev : ℕ) (m : Machine) → machine_after_entry front None dev m ≡ m
 nothing_handled front dev m =
     ap (λ (sts : List Station). (let x : Machine = record m { stations = sts } in x))

@@ -21,7 +21,7 @@ use Rattle.iio_system.specs.declared.connection.Connection.{Connection}
 use Rattle.iio_system.specs.Guard.{client_named, clients_besides, own_input, with_client}
 use Rattle.iio_system.specs.System.{AreLines, IsServed, Stands}
 
--- ---- what is asked of what is open
+-- ---- questions about what is open
 
 -- the same is asked where what the connection itself may say is asked of the others, and what others may say of it
 pub record Asks (mine : Bool) (x y : Opens) : Type 0 where
@@ -72,7 +72,7 @@ turned a b other = by (bytes_eq b a) refl
     by false is = is
     by true is = let same : bytes_eq a b ≡ true = (bytes_eq-Decides a b).1 (sym ((bytes_eq-Decides b a).0 is)) in let n : true ≡ false = sym same ∙ other in cc
 
--- names among which one isn't
+-- names that don't include that one
 others_all : (w : List ℕ) (ns : List (List ℕ)) → is_in ns w ≡ false → Every (λ n. bytes_eq w n ≡ false) ns
 others_all w [] absent = tt
 others_all w (n ∷ ns) absent = by (bytes_eq n w) refl absent (λ h. others_all w ns h)
@@ -149,7 +149,7 @@ module _ {S : Type 0} (seen : S → SeatRecord) (front : Front) (m : Told) where
   none_more l None gone ds es rest = ap (λ (ss : List SeatState). is_empty ss && none_seated ds) gone.bare.0 ∙ rest
   none_more l (Some x) live ds es rest = ap (λ b. is_empty (client_of seen x.client).seats && b) rest
 
-  -- the same of a list of clients by any test that a client of nothing doesn't change
+  -- the same for a list of clients and any test that a client with nothing doesn't change
   others_are : {B : Type 0} (f : List ClientRecord → B)
       → ((l : Line) (o : Option (SessionRecord S)) (p : IsServed seen front m l o) (ds es : List ClientRecord) → f ds ≡ f es
       → f (client_of_line l o p ∷ ds) ≡ f (with_client seen o es))
@@ -185,7 +185,7 @@ module _ {S : Type 0} (seen : S → SeatRecord) (front : Front) (m : Told) where
       → none_seated (clients_but (client_at ls cs are) a (map name_of ls)) ≡ none_seated (clients_besides seen a cs)
   none_besides ls cs are a apart = others_are none_seated none_more ls cs are a apart
 
-  -- ---- the watched connection's own
+  -- ---- what the watched connection has open
 
   own_line : (l : Line) (o : Option (SessionRecord S)) (p : IsServed seen front m l o) (k : ℕ)
       → own_has (Some (client_of_line l o p)) k ≡ own_has (option_map (λ (x : SessionRecord S). client_of seen x.client) o) k
@@ -211,7 +211,7 @@ module _ {S : Type 0} (seen : S → SeatRecord) (front : Front) (m : Told) where
 
   -- ---- what is open, by the connections that aren't fed
 
-  -- of the watched one's own feed the others are asked, of another's the watched one
+  -- for a feed of the watched connection the others are asked, for a feed of another the watched one
   pub asks_those : (s : Setup) (a : List ℕ) (mine : Bool) (ls : List Line) (cs others : List (Connection S)) (are : AreLines seen front m ls cs)
       → AreDistinct (map name_of ls) → front ≡ front_of s
       → (mine ≡ false → client_named seen a others ≡ client_named seen a cs) → (mine ≡ true → clients_besides seen a others ≡ clients_besides seen a cs)

@@ -1,4 +1,4 @@
--- Whether a step keeps to the rules of bystanders, over the told state.
+-- Whether a step keeps to the rules of bystanders, by the told state.
 use Rattle.std.proofs.Common.{◌≡◌, ℕ, suc, ◌+◌, ◌*◌, ◌-◌, ◌^◌, ◌<◌, ◌||◌, not, Bool, true, false, List, ◌++◌, length, get_or, Option, Some, None, Result, Ok, Err, IfOk, refl, sym, ap, ◌∙◌, subst, arith, []}
 use Rattle.std.specs.List.{position}
 use Rattle.std.specs.Str.{bytes_eq}
@@ -40,7 +40,7 @@ use Rattle.iio_system.proofs.SplitLaws.{StandsAt, named_there, there}
 module _ {X : Type 0} {V : X → Type 0} (driver : Plug X V → Driver) where
   -- ---- a feed
 
-  -- of one that is there
+  -- of a connection that is there
   meets_there : ClientsDecide → (b : Bench X V) (cs others : List (Connection Seat)) (i : ℕ) (c : Connection Seat) (a name bytes : List ℕ) (r : Result Bool Mem)
       → position (is_named name) cs ≡ Some i → c ≡ get_or cs i c
       → (bytes_eq name a ≡ false → client_named seen_of a others ≡ client_named seen_of a cs)
@@ -65,7 +65,7 @@ module _ {X : Type 0} {V : X → Type 0} (driver : Plug X V → Driver) where
           (is_hearing seen_of s m (front_of b) (Some (machine_of driver b)) cs name bytes l x holds here served (line_there name m.lines l here)
           (room_less _ _ m.stations (omega (arith, items_few l.begun bytes)) room)))
 
-  -- the same, where the others are those before it and those after it: one of the watched name counts as nobody, and one of
+  -- the same, if the others are those before it and those after it: one of the watched name counts as nobody, and one of
   -- another name isn't the watched one
   pub meets_between : ClientsDecide
       → (b : Bench X V) (cs before : List (Connection Seat)) (c : Connection Seat) (after : List (Connection Seat)) (a name bytes : List ℕ)
@@ -81,7 +81,7 @@ module _ {X : Type 0} {V : X → Type 0} (driver : Plug X V → Driver) where
       (λ mine. besides_between seen_of a before after c (called true mine) ∙ ap (λ (xs : List (Connection Seat)). clients_besides seen_of a xs) (sym at.parts))
       (subst (λ (n : List ℕ). IfOk r (MeetsBeside seen_of a n bytes (front_of b) (Some (machine_of driver b)) c.session (before ++ after))) own fed)
 
-  -- of one that comes
+  -- of a connection that is new
   pub meets_new : ClientsDecide → (b : Bench X V) (cs : List (Connection Seat)) (c : Connection Seat) (a name bytes : List ℕ) (r : Result Bool Mem)
       → position (is_named name) cs ≡ None → IsNew name (length cs) c
       → IfOk r (MeetsBeside seen_of a c.name bytes (front_of b) (Some (machine_of driver b)) c.session cs)
@@ -125,7 +125,7 @@ module _ {X : Type 0} {V : X → Type 0} (driver : Plug X V → Driver) where
       let met : MeetsStep driver a (code.Drop name) b cs meets = λ s m room holds. lost s m holds in
       subst (λ (x : CodeStep). MeetsStep driver a x b cs meets) (sym is) met
 
-  -- every other step keeps to them
+  -- every other step keeps to the rules
   pub met_other : (a : List ℕ) (t : CodeStep) (b : Bench X V) (cs : List (Connection Seat)) → ((name bytes : List ℕ) → t ≡ code.Feed name bytes → ⊥)
       → ((name : List ℕ) → t ≡ code.Drop name → ⊥)
       → MeetsStep driver a t b cs true

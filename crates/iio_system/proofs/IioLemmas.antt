@@ -75,7 +75,7 @@ position_none p (x ∷ xs) before =
 
 -- ---- what holds after each call
 
--- what other devices than input ones have of attributes can't be written
+-- the attributes of devices other than input devices can't be written
 written_by : (kind : Kind) (a : Attr) → has_attribute kind a ≡ true → is_writable a ≡ true → is_input kind ≡ true
 written_by Input a has writable = refl
 written_by Output attr.Name has writable = absurd (cc)
@@ -91,7 +91,7 @@ written_by (Average base window) attr.Length has writable = absurd (cc)
 written_by (Average base window) attr.Discarded has writable = absurd (cc)
 written_by (Average base window) a has writable = absurd (cc)
 
--- a device whose members each change keeps its place
+-- a device with each member changed keeps its place
 pub members_mapped : (f : Member → Member) (st : Station) → ((j : ℕ) (x : Member) → is_inner_of j (f x) ≡ is_inner_of j x)
     → KeepsStanding st (record st { members = map f st.members })
 members_mapped f st same = standing st _ refl refl refl (is_empty-map f st.members) (λ j. inner_mapped j f (same j) st.members) refl
@@ -109,7 +109,7 @@ pub may_read : (front : Front) (k : ℕ) (channel : Option ℕ) (a : Attr) (d : 
 may_read front k None a d kind shape may = (may.0, rw kind at may.1)
 may_read front k (Some c) a d kind shape may = (rw shape at may.0, may.1, rw kind at may.2)
 
--- and one that may be written is one of an input device's
+-- an attribute that may be written is one of an input device's
 pub is_written : (front : Front) (k : ℕ) (channel : Option ℕ) (a : Attr) (v : Fixed) (d : DeviceHead) → kind_at front k ≡ d.kind → shape_at front k ≡ d.shape
     → MayWrite front k channel a v
     → (is_input d.kind ≡ true) × IfSome channel (λ c. c < length d.shape.channels)
@@ -151,7 +151,7 @@ module _ {X : Type 0} {V : X → Type 0} (drive : Plug X V → Driver) where
         (bench_kept triggers states (map (any_station (λ p. no_driver)) ds) k (any_station (λ p. no_driver) d) (any_station (λ p. no_driver) d') sound
         (map_at (any_station (λ p. no_driver)) ds k d at) (plain_place d d' kept))
 
-    -- what holds of the bench holds where one device keeps its standing
+    -- what holds of the bench still holds if one device keeps its standing
     pub sound_kept : (triggers : List TriggerDesc) (states : List State) → IsBench triggers states (stations_by (λ p. no_driver) ds)
         → KeepsStanding (any_station drive d) (any_station drive d')
         → IsBench triggers states (stations_by (λ p. no_driver) (set ds k d'))
@@ -246,7 +246,7 @@ fronts_keep context triggers ds k d d' at keeps =
     ap (λ (devices : List DeviceHead). (let x : Front = record { context = context; triggers = triggers; devices = devices } in x))
     (map_same any_front ds k d d' at keeps.front)
 
--- all that no connection's call changes
+-- everything that no connection's call changes
 pub kept_equal : (x y : Kept) → x.front ≡ y.front → x.captures ≡ y.captures → x ≡ y
 kept_equal x y front captures =
     ap (λ (f : Front). (let k : Kept = record { front = f; captures = x.captures } in k)) front

@@ -1,4 +1,4 @@
--- How many items bytes make whole.
+-- The number of items that bytes make whole.
 use Rattle.std.proofs.Common.{ℕ, ◌≤◌, ◌==◌, nat_lt, Bool, true, false, cond, List, [], ◌∷◌, ◌++◌, length, Result, Ok, arith, length-append}
 use Rattle.std.specs.Prelude.{Some}
 use Rattle.iio_text.specs.declared.errors.Errno.TheVariants.{E2BIG, EFBIG}

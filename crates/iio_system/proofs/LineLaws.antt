@@ -1,4 +1,4 @@
--- The lines of the told state, where one connection is heard.
+-- The lines of the told state when one connection is heard.
 use Rattle.std.proofs.Common.{◌≡◌, ℕ, ◌||◌, Bool, true, false, cond, List, [], ◌∷◌, map, Option, Some, None, refl, sym, ap, ◌∙◌, subst, append-nil, true≢false}
 use Rattle.std.specs.Str.{bytes_eq}
 use Rattle.iiod_grammar.specs.Stream.{Item, End, Scanner, no_item, scanner_after}
@@ -29,13 +29,13 @@ apart_sym a b apart = by (bytes_eq b a) refl
     by false is = is
     by true is = absurd (true≢false (sym (ap (λ (n : List ℕ). bytes_eq n b) (sym (name_same b a is)) ∙ name_itself b) ∙ apart))
 
--- a line that is the same but for its buffers counts
+-- a line that is the same except for its buffers count
 pub record SameLine (l l' : Line) : Type 0 where
   pub who : l'.user.who ≡ l.user.who
   pub ended : l'.user.ended ≡ l.user.ended
   pub begun : l'.begun ≡ l.begun
 
--- what is said of another connection changes nothing of a line
+-- what another connection says changes nothing of a line
 pub other_heard : (s : Setup) (r : Registry) (name : List ℕ) (item : Item) (l : Line) → bytes_eq l.user.who name ≡ false
     → SameLine l (line_after s r (Heard name item) l)
 other_heard s r name (End error) l apart = record { who = refl; ended = ap (λ (b : Bool). l.user.ended || b) apart ∙ or_false l.user.ended; begun = refl }
@@ -69,7 +69,7 @@ module _ {S : Type 0} (seen : S → SeatRecord) where
     client = served.client;
   }
 
-  -- the lines but for the one of that name
+  -- the lines except the one of that name
   abbrev pub OthersAre : Front → Told → List ℕ → List Line → List (Connection S) → Type 0
   OthersAre front m name [] [] = Unit {0}
   OthersAre front m name (l ∷ ls) (c ∷ cs) =

@@ -1,4 +1,4 @@
--- One element of a list changed.
+-- A list with one element changed.
 use Rattle.std.proofs.Common.{◌≡◌, ◌⊎◌, ℕ, zero, suc, ◌<◌, Bool, true, false, List, [], ◌∷◌, ◌++◌, map, length, set, slice_get, get_or, Some, None, inl, inr, refl, sym, ap, ◌∙◌, arith, filter, cond, not}
 use Rattle.std.specs.Prelude.{find}
 use Rattle.std.proofs.lemmas.Option.{slice_get_read}
@@ -6,7 +6,7 @@ use Rattle.iio_device.specs.Site.{at_place}
 use Rattle.iio_system.specs.Triggers.{IsNumbered}
 
 module _ {A : Type 0} where
-  -- an element once another was written
+  -- an element after another one was written
   pub after_set : (xs : List A) (i j : ℕ) (x y : A) → slice_get (set xs i x) j ≡ Some y → ((j ≡ i) × (y ≡ x)) ⊎ ((j ≡ i → ⊥) × (slice_get xs j ≡ Some y))
   after_set [] i j x y e = absurd (cc)
   after_set (z ∷ zs) zero zero x y e = inl (refl, cc)
@@ -28,7 +28,7 @@ module _ {A : Type 0} where
   at_place_same (y ∷ ys) zero x change at e = let same : y ≡ x = cc in ap (λ (z : A). z ∷ ys) (ap change same ∙ e ∙ sym same)
   at_place_same (y ∷ ys) (suc i) x change at e = ap (λ (zs : List A). y ∷ zs) (at_place_same ys i x change at e)
 
-  -- nothing is filtered out where nothing is found
+  -- nothing is filtered out if nothing is found
   pub filter_none : (p : A → Bool) (xs : List A) → find p xs ≡ None → filter (λ x. not (p x)) xs ≡ xs
   filter_none p [] e = refl
   filter_none p (x ∷ xs) e = by (p x) e (filter_none p xs)

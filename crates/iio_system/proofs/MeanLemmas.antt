@@ -151,7 +151,7 @@ module _ (front : Front) (j base window : ℕ) (is : kind_at front j ≡ Average
 
   -- ---- refusals
 
-  -- where the first member finds what it wants of the base
+  -- where the first member finds what it needs of the base
   abbrev mean_host : Station → Station → Host Station
   mean_host st b = inner_host (is_empty st.members) b (shape_at front base)
 
@@ -176,7 +176,7 @@ module _ (front : Front) (j base window : ℕ) (is : kind_at front j ≡ Average
       under
       ∙ ap (λ (x : Option Errno). unless_made (all_joined front j (station_after_join mask capacity cyclic None)) m (unless_refused st.next x)) e
 
--- the refusals of a first member, by those of the inner one at the base: its own numbers may end besides
+-- the refusals of a first member, by those of the inner one at the base; besides, its own numbers may have run out
 abbrev pub base_list : (gone t u e p nb : Bool) → List (Bool × Errno)
 base_list gone t u e p nb = (gone, ENODEV) ∷ (false, EBUSY) ∷ join_refusals t u (e && p || nb)
 
@@ -223,7 +223,7 @@ further_full e p true nb = refl
 further_full e p false nb = refl
 
 module _ (front : Front) (base window : ℕ) (sts : List Station) (st b : Station) where
-  -- of a further member: by the device's own plug and numbers, where the base is on a trigger
+  -- of a further member: by the device's own plug and numbers, if the base has a trigger
   pub further_is : is_empty st.members ≡ false → is_none b.site.trigger ≡ false
       → open_refusals front sts (Average base window)
       (inner_host (is_empty st.members) b (shape_at front base)) st
@@ -238,7 +238,7 @@ module _ (front : Front) (base window : ℕ) (sts : List Station) (st b : Statio
       ∙ ap (λ (f : Bool). (not st.site.plugged, ENODEV) ∷ (false, EBUSY) ∷ join_refusals false false f)
       (further_full (is_empty b.members) (has_no_place front (attachments_of sts) b.site.trigger) (has_no_number st) (has_no_number b))
 
-  -- of the first one
+  -- of the first member
   pub first_is : is_empty st.members ≡ true
       → open_refusals front sts (Average base window)
       (inner_host (is_empty st.members) b (shape_at front base)) st
@@ -269,9 +269,9 @@ base_is front states sts k shape b plugged bench at same full =
     (place_as (is_empty b.members) (lacks_place k states b.site.trigger) (has_no_place front (attachments_of sts) b.site.trigger)
     (λ empty. lacks_is front states sts k b bench at empty b.site.trigger))
 
--- ---- what holds then
+-- ---- what holds afterwards
 
--- an averaging device is on no trigger of its own
+-- an averaging device has no trigger of its own
 pub bench_unattached : (triggers : List TriggerDesc) (states : List State) (sts : List Station) (k : ℕ) (st st' : Station) → IsBench triggers states sts
     → slice_get sts k ≡ Some st → st.site.trigger ≡ None → st'.site.trigger ≡ None
     → IsBench triggers states (set sts k st')
@@ -322,7 +322,7 @@ has_further j mask capacity st b st' own some is = record {
   most = own.most;
 }
 
--- nobody is left of averaging device j at its base
+-- no inner member of averaging device j is left at its base
 none_inner : (j : ℕ) (ms : List Member) → list_any (is_inner_of j) (filter (λ (x : Member). not (is_inner_of j x)) ms) ≡ false
 none_inner j [] = refl
 none_inner j (x ∷ ms) = by (is_inner_of j x) refl (none_inner j ms)
@@ -333,7 +333,7 @@ none_inner j (x ∷ ms) = by (is_inner_of j x) refl (none_inner j ms)
     by true e rest = rest
     by false e rest = ap (λ (b : Bool). b || list_any (is_inner_of j) (filter (λ (y : Member). not (is_inner_of j y)) ms)) e ∙ rest
 
--- and those of others stay
+-- the inner members of others stay
 pub inner_stays : (j i : ℕ) (ms : List Member) → (i ≡ j → ⊥)
     → list_any (is_inner_of i) (filter (λ (x : Member). not (is_inner_of j x)) ms) ≡ list_any (is_inner_of i) ms
 inner_stays j i [] apart = refl
@@ -354,7 +354,7 @@ inner_stays j i (x ∷ ms) apart = by x.inner (inner_stays j i ms apart)
     by None rest = rest
     by (Some n) rest = some n (n == j) (n == i) refl refl rest
 
--- the last member takes the inner one with it
+-- when the last member leaves, so does the inner one
 pub has_left : (j n : ℕ) (st b st' b' : Station) → HasInner j b st → st' ≡ station_after_leave n st
     → b' ≡ cond (is_empty (station_after_leave n st).members) (inner_gone j b) b
     → HasInner j b' st'

@@ -68,11 +68,11 @@ on_trigger n st some h = by st.site.trigger h
     by None e = absurd (let never = sym some ∙ e in cc)
     by (Some t) e = refl
 
--- want of memory changes nothing
+-- if memory ran out, nothing changes
 pub told_mem : {A : Type 0} (o : CallResult A) (m m' : Machine) (refusal : No) → refusal ≡ NoMem → m' ≡ m → Answers o m (Err refusal) (Some m')
 told_mem {A = A} o m m' refusal e same = subst (λ (y : No). Answers {A = A} o m (Err y) (Some m')) (sym e) (ap (λ (x : Machine). Some x) same)
 
--- what an undoing wants
+-- what an undoing requires
 pub has_joined : (mask : Mask) (capacity : ℕ) (shape : ShapeRecord) (seat : Seat) (st st' : Station) → JoinsMean mask capacity shape (Ok seat) st st'
     → HasJoined seat.mask seat.capacity st'
 has_joined mask capacity shape seat st st' j =
@@ -82,7 +82,7 @@ pub joined_by_seat : (mask : Mask) (capacity : ℕ) (shape : ShapeRecord) (seat 
     → st' ≡ station_after_join seat.mask.bits seat.capacity false None st
 joined_by_seat mask capacity shape seat st st' j = j.1 ∙ sym (ap (λ (s : Seat). station_after_join s.mask.bits s.capacity false None st) j.0)
 
--- the scans of an averaging device's members come round never again
+-- the scans of an averaging device's members never come round again
 pub never_cyclic : (kind : Kind) (cyclic : Bool) → is_average kind ≡ true → (cyclic && not (is_output kind)) ≡ false → cyclic ≡ false
 never_cyclic Input cyclic is once = absurd (cc)
 never_cyclic Output cyclic is once = absurd (cc)
@@ -101,7 +101,7 @@ pub no_longer_empty : (b : Bool) → not b ≡ true → b ≡ false
 no_longer_empty true e = absurd (cc)
 no_longer_empty false e = refl
 
--- an averaging device is on no trigger
+-- an averaging device has no trigger
 mean_off : {X : Type 0} {V : X → Type 0} (drive : Plug X V → Driver) (base : ℕ) (d : AnyDevice X V) → base_of (any_front d).kind ≡ Some base
     → (any_station drive d).site.trigger ≡ None
 mean_off drive base (any.Input d) over = absurd (cc)
@@ -115,18 +115,18 @@ pub record MeanAt {X : Type 0} {V : X → Type 0} (bench : Bench X V) (k base : 
   pub at : slice_get bench.devices.items k ≡ Some d
   pub over : base_of (any_front d).kind ≡ Some base
 
--- and its base
+-- an averaging device and its base
 pub record PairAt {X : Type 0} {V : X → Type 0} (bench : Bench X V) (k base : ℕ) (d e : AnyDevice X V) : Type 0 where
   pub mean : MeanAt bench k base d
   pub under : slice_get bench.devices.items base ≡ Some e
 
--- or some base
+-- an averaging device and some base
 pub record MeanOver {X : Type 0} {V : X → Type 0} (bench : Bench X V) (k : ℕ) (d : AnyDevice X V) : Type 0 where
   pub base : ℕ
   pub device : AnyDevice X V
   pub pair : PairAt bench k base d device
 
--- the devices of a bench, and its triggers, as the bench wants them
+-- the devices and triggers of a bench, as the bench requires them
 pub record Holds {X : Type 0} {V : X → Type 0} (bench : Bench X V) (ss : List State) (xs : List (AnyDevice X V)) : Type 0 where
   pub sound : IsBench bench.described.items ss (stations_by (λ p. no_driver) xs)
   pub numbered : IsNumbered number_by xs
@@ -165,14 +165,14 @@ module _ {X : Type 0} {V : X → Type 0} {bench : Bench X V} {k base : ℕ} {d :
       average_other (map any_front there) k base base mean.window is
       (input_plain (kind_in (map any_front there) base) (bench.averaged.bases.bases k base mean.window is).input) (sym e)
 
-  -- it is read again
+  -- a second read of it is the same
   pub same_mean : {d' : AnyDevice X V} → MeanAt bench k base d' → d ≡ d'
   same_mean {d' = d'} m' = same_element there k d d' m.at m'.at
 
   pub pair_there : (e : AnyDevice X V) × PairAt bench k base d e
   pair_there = let e = element_there there base base_inside in (e.0, record { mean = m; under = e.1 })
 
-  -- the base, read once the averaging device has changed
+  -- the base, read after the averaging device has changed
   pub pair_read : (d' e : AnyDevice X V) → e ≡ get_or (set there k d') base e → PairAt bench k base d e
   pair_read d' e read = record {
     mean = m;
@@ -193,7 +193,7 @@ module _ {X : Type 0} {V : X → Type 0} (bench : Bench X V) (k : ℕ) (known : 
       → e ≡ get_or (set bench.devices.items k d') base e → PairAt bench k base d e
   pair_after base d d' e over read after = pair_read (mean_read base d read over) d' e after
 
-  -- where it isn't read itself
+  -- if it isn't read itself
   pub mean_unread : (base : ℕ) → base_of (kind_at (front_of bench) k) ≡ Some base → (d : AnyDevice X V) × MeanAt bench k base d
   mean_unread base over =
       let d = element_there bench.devices.items k (within_map any_front bench.devices.items k known) in (
@@ -223,7 +223,7 @@ module _ {X : Type 0} {V : X → Type 0} (bench : Bench X V) (k : ℕ) (known : 
       let pair = pair_there mean in
       record { base = base.0; device = pair.0; pair = pair.1 }
 
--- two reads of it are one
+-- two reads of it are the same
 pub same_read : {X : Type 0} {V : X → Type 0} {bench : Bench X V} {k : ℕ} {d d' : AnyDevice X V} → MeanOver bench k d → MeanOver bench k d' → d ≡ d'
 same_read {bench = bench} {k = k} {d = d} {d' = d'} o o' = same_element bench.devices.items k d d' o.pair.mean.at o'.pair.mean.at
 
@@ -415,7 +415,7 @@ module _ {X : Type 0} {V : X → Type 0} (drive : Plug X V → Driver) {bench : 
     pub alone_here : IsServedAlone Input (shape_at front base) (station_at machine base) full → IsServedAlone Input (shape_at front base) b full
     alone_here h = subst (λ (x : Station). IsServedAlone Input (shape_at front base) x full) station_base h
 
-    -- a queue may have scans of all its channels
+    -- a queue can hold a scan of all its channels
     pub full_fits : full ≡ full_mask (shape_at front base) → full < 2 ^ count_of (any_front e).shape
     full_fits whole =
         subst (λ (m : ℕ). m < 2 ^ count_of (any_front e).shape) (sym (whole ∙ ap full_mask shape_base)) (full_below (count_of (any_front e).shape))
@@ -440,7 +440,7 @@ module _ {X : Type 0} {V : X → Type 0} (drive : Plug X V → Driver) {bench : 
     abbrev whole_mask : ℕ
     whole_mask = full_mask (shape_at front base)
 
-    -- by those of the inner one
+    -- by the refusals of the inner one
     base_refusals : first_refusal (any_refusals (lacks_place base states b.site.trigger) Input (shape_at front base) b full)
         ≡ first_refusal (base_list (not st.site.plugged) (is_none b.site.trigger) (is_without_union (shape_at front base) [] whole_mask)
         (is_empty b.members) (has_no_place front (attachments_of machine.stations) b.site.trigger) (has_no_number b))
@@ -518,7 +518,7 @@ module _ {X : Type 0} {V : X → Type 0} (drive : Plug X V → Driver) {bench : 
   }
   mean_seat mask capacity st' (Err refusal) j = tt
 
-  -- ---- what holds then
+  -- ---- what holds afterwards
 
   abbrev Stand : List State → List (AnyDevice X V) → Type 0
   Stand ss xs = IsBench triggers ss (stations_by (λ p. no_driver) xs)
@@ -526,15 +526,15 @@ module _ {X : Type 0} {V : X → Type 0} (drive : Plug X V → Driver) {bench : 
   abbrev AreAveraged : List (AnyDevice X V) → Type 0
   AreAveraged xs = IsAveraged (length triggers) bench.first_average (map any_front xs) (stations_by (λ p. no_driver) xs)
 
-  -- the base is where it was, beside a change of the averaging device
+  -- the base is where it was after a change of the averaging device
   pub base_there : (d' : AnyDevice X V) → slice_get (set ds k d') base ≡ Some e
   base_there d' = get_there ds k base d' e (base_apart p.mean) p.under
 
-  -- and so is the averaging device, beside a change of its base
+  -- the averaging device is where it was after a change of its base
   mean_there : (d' e' : AnyDevice X V) → slice_get (set (set ds k d') base e') k ≡ Some d'
   mean_there d' e' = get_there (set ds k d') base k e' d' apart_base (get_here ds k d d' p.mean.at)
 
-  -- where it is read again
+  -- if it is read again
   pub mean_once : (d' x : AnyDevice X V) → k < length (map any_front ds) → x ≡ get_or (set ds k d') k x → x ≡ d'
   mean_once d' x known read =
       same_element (set ds k d') k x d' (element_at any_front (set ds k d') k x (within_set ds k k d' (within_map any_front ds k known)) read)
@@ -558,18 +558,18 @@ module _ {X : Type 0} {V : X → Type 0} (drive : Plug X V → Driver) {bench : 
   heads : (d' e' : AnyDevice X V) → KeepsHead d d' → KeepsHead e e' → map any_front (set (set ds k d') base e') ≡ map any_front ds
   heads d' e' keeps keeps' = map_same any_front (set ds k d') base e e' (base_there d') keeps'.front ∙ map_same any_front ds k d d' p.mean.at keeps.front
 
-  -- each has its place for its number
+  -- each has its number for its place
   numbered_mean : (d' : AnyDevice X V) → KeepsHead d d' → IsNumbered number_by (set ds k d')
   numbered_mean d' keeps = numbered_after number_by ds k d d' bench.numbered p.mean.at keeps.number
 
   numbered_both : (d' e' : AnyDevice X V) → KeepsHead d d' → KeepsHead e e' → IsNumbered number_by (set (set ds k d') base e')
   numbered_both d' e' keeps keeps' = numbered_after number_by (set ds k d') base e e' (numbered_mean d' keeps) (base_there d') keeps'.number
 
-  -- where the base is as it was
+  -- if the base is as it was
   alone : (d' : AnyDevice X V) → set (set ds k d') base e ≡ set ds k d'
   alone d' = set_same (set ds k d') base e (base_there d')
 
-  -- the averaging device alone
+  -- only the averaging device has changed
   bench_mean : (d' : AnyDevice X V) → KeepsHead d d' → IsBench triggers states (stations_by drive (set ds k d'))
   bench_mean d' keeps =
       bench_by (any_station drive) triggers states ds k d'
@@ -599,7 +599,7 @@ module _ {X : Type 0} {V : X → Type 0} (drive : Plug X V → Driver) {bench : 
       (averaged_as (λ p. no_driver) drive (length triggers) bench.first_average (map any_front ds) ds bench.averaged) (kind_there ds k d p.mean.at ∙ mean.is)
       here below hosted has plugged captures others)))
 
-  -- after the averaging device alone has
+  -- after only the averaging device has changed
   averaged_alone : (d' : AnyDevice X V) → KeepsHead d d' → HasInner k b (any_station drive d') → AreAveraged (set ds k d')
   averaged_alone d' keeps has =
       subst (λ (xs : List (AnyDevice X V)). AreAveraged xs) (alone d')
@@ -630,7 +630,7 @@ module _ {X : Type 0} {V : X → Type 0} (drive : Plug X V → Driver) {bench : 
       sound_as drive (λ p. no_driver) triggers (set states t s') (set (set ds k d') base e')
       (bench_by (any_station drive) triggers (set states t s') (set ds k d') base e' stands)
 
-  -- the first member, where the base hosts the inner one by trigger t
+  -- the first member, if the base hosts the inner one by trigger t
   module _ (full : Mask) (t : ℕ) (hosts : HostsTold full.bits (Ok t)) (s : State) (read : s ≡ get_or states t s) where
     on_base : b.site.trigger ≡ Some t
     on_base = (hosts_here full.bits (Ok t) hosts).0
@@ -683,7 +683,7 @@ module _ {X : Type 0} {V : X → Type 0} (drive : Plug X V → Driver) {bench : 
       averaged = averaged_first mask capacity d' e' keeps keeps' whole is joins;
     }
 
-    -- where the inner member takes no memory, the first one's joining is undone at device x, which is it, and all is as before
+    -- if memory runs out for the inner member, the first one's joining is undone at x, the averaging device: all is as before
     module _ (mask : Mask) (capacity : ℕ) (seat : Seat) (d' e' x d'' : AnyDevice X V) (s' : State) (known : k < length (map any_front ds))
         (again : x ≡ get_or (set (set ds k d') base e') k x)
         (keeps : KeepsHead d d') (keeps' : KeepsHead e e') (keeps'' : KeepsHead x d'')
@@ -736,7 +736,7 @@ module _ {X : Type 0} {V : X → Type 0} (drive : Plug X V → Driver) {bench : 
             (averaged_as (λ p. no_driver) drive (length triggers) bench.first_average (map any_front ds) ds bench.averaged)));
       }
 
-  -- ---- one leaves
+  -- ---- a member leaves
 
   -- whether one is left, as it is asked of device x, which is the averaging device
   pub asked_left : (n : ℕ) (d' x : AnyDevice X V) (has c : Bool) → k < length (map any_front ds) → x ≡ get_or (set ds k d') k x
@@ -751,16 +751,16 @@ module _ {X : Type 0} {V : X → Type 0} (drive : Plug X V → Driver) {bench : 
       by true c q = ap not (sym q)
       by false c q = ap not (sym q)
 
-  -- the trigger that the base is on is there
+  -- the base's trigger is there
   pub base_on : (t : ℕ) → Some t ≡ b.site.trigger → t < length states
   base_on t on =
       subst (λ (n : ℕ). t < n) (sym (as_many triggers states bench.sound.places)) (hosted_within (length triggers) t b (sym on) base_hosted)
 
-  -- the base keeps its inner member where there is a member still
+  -- the base keeps its inner member if there is still a member
   inner_needed : (n : ℕ) → is_empty (station_after_leave n st).members ≡ false → b ≡ cond (is_empty (station_after_leave n st).members) (inner_gone k b) b
   inner_needed n some = sym (ap (λ (c : Bool). cond c (inner_gone k b) b) some)
 
-  -- and has none where it is on no trigger
+  -- the base has no inner member if it has no trigger
   inner_none : (n : ℕ) → b.site.trigger ≡ None → b ≡ cond (is_empty (station_after_leave n st).members) (inner_gone k b) b
   inner_none n none = by (is_empty (station_after_leave n st).members)
     where
@@ -768,7 +768,7 @@ module _ {X : Type 0} {V : X → Type 0} (drive : Plug X V → Driver) {bench : 
       by true = sym (gone_none k b (hosted_none (length triggers) b none base_hosted))
       by false = refl
 
-  -- what is told then
+  -- what is told afterwards
   told_both : (n : ℕ) (d' e' : AnyDevice X V) → any_station drive d' ≡ station_after_leave n st
       → any_station drive e' ≡ cond (is_empty (station_after_leave n st).members) (inner_gone k b) b
       → Some (told_by (set (set ds k d') base e')) ≡ Some (machine_after_close front machine k n)
@@ -778,7 +778,7 @@ module _ {X : Type 0} {V : X → Type 0} (drive : Plug X V → Driver) {bench : 
       ∙ mean_closed front k base mean.window kind_here kind_base apart_base machine st b (any_station drive d') (any_station drive e')
       here below n is gone)
 
-  -- one leaves, and the base stays as it is
+  -- a member leaves, and the base stays as it is
   module _ (n : ℕ) (d' : AnyDevice X V) (is : any_station drive d' ≡ station_after_leave n st) where
     holds_beside : KeepsHead d d' → b ≡ cond (is_empty (station_after_leave n st).members) (inner_gone k b) b → Holds bench states (set ds k d')
     holds_beside keeps same = holds_alone d' keeps (has_left k n st b (any_station drive d') b own_inner is same)
@@ -799,7 +799,7 @@ module _ {X : Type 0} {V : X → Type 0} (drive : Plug X V → Driver) {bench : 
     pub told_off : b.site.trigger ≡ None → Some (told_by (set ds k d')) ≡ Some (machine_after_close front machine k n)
     told_off none = told_beside (inner_none n none)
 
-    -- the last one takes the inner member with it, by trigger t
+    -- with the last member the inner one leaves, by trigger t
     module _ (e' : AnyDevice X V) (none : is_empty (station_after_leave n st).members ≡ true) (gone : any_station drive e' ≡ inner_gone k b) where
       whole : any_station drive e' ≡ cond (is_empty (station_after_leave n st).members) (inner_gone k b) b
       whole = gone ∙ sym (ap (λ (c : Bool). cond c (inner_gone k b) b) none)

@@ -1,4 +1,4 @@
--- What happens to a bench beside its connections' calls is what the history says.
+-- What happens to a bench besides the calls of connections is what the history says.
 use Rattle.std.proofs.Common.{◌≡◌, ℕ, zero, suc, ◌+◌, ◌-◌, ◌^◌, ◌<◌, ◌≤◌, ℤ, Bool, true, false, not, List, [], ◌∷◌, ◌++◌, map, length, codes, slice_get, slice_index_or, Option, Some, None, refl, sym, ap, ◌∙◌, subst, append-nil, arith}
 use Rattle.std.specs.Prelude.{◌&&◌, All, unwrap_or}
 use Rattle.std.specs.Option.{option_map_or}
@@ -141,7 +141,7 @@ room_word (Some (Gave gave.Idle)) members room is = refl
 
 -- ---- captures
 
--- captures that have not come to their end
+-- captures that haven't come to their end
 pub not_ended : (captures : List ℕ) (dev : ℕ) → All (λ n. n < 2 ^ 64 - 1) captures → option_map_or is_last (slice_get captures dev) false ≡ false
 not_ended [] dev all = refl
 not_ended (n ∷ ns) zero all = let h = all 0 0 (omega arith) in grind (arith, nat_tests)
@@ -175,7 +175,7 @@ rise_more j k old new less rise = λ n all i d within. let h = rise n all i d wi
 -- ---- one event
 
 module _ (s : Setup) (m : Told) (e : Event) where
-  -- its line
+  -- the line of an event
   one_line : (text before after : List ℕ) → IsBench s m → IsOfBench e → text ≡ moved_text s (machine_of m) e → after ≡ before ++ text
       → after ≡ before ++ (event_text s m e ++ [])
   one_line text before after bench is words line =
@@ -217,7 +217,7 @@ module _ {X : Type 0} {V : X → Type 0} (driver : Plug X V → Driver) where
       there_is (bench_machine driver b).stations dev no_station
       (subst (λ (n : ℕ). dev < n) (length_map_is any_front b.devices.items ∙ sym (length_map_is (any_station driver) b.devices.items)) less)
 
-  -- what is said of a device by its number is said of it as it stands in the told state
+  -- what is said of a device by its number is said of it as the told state has it
   told_here : {A : Type 0} (word : Machine → Option Station → A) (s : Setup) (m : Told) (b : Bench X V) (cs : List (Connection Seat)) (dev : ℕ)
       → dev < length (bench_front b).devices → Holds driver s m b cs
       → word (bench_machine driver b) (Some (station_at (bench_machine driver b) dev)) ≡ word (machine_of m) (slice_get (machine_of m).stations dev)

@@ -1,4 +1,4 @@
--- The names of connections, and the places where they stand.
+-- The names of connections, and their places.
 use Rattle.std.proofs.Common.{◌≡◌, ℕ, suc, zero, ◌<◌, ◌≤◌, ◌||◌, nat_lt, Bool, true, false, cond, List, [], ◌∷◌, length, map, get_or, Option, Some, None, is_some, refl, sym, ap, ◌∙◌, arith, inl, inr}
 use Rattle.std.specs.List.{list_any, position, position_or_len}
 use Rattle.std.specs.Str.{bytes_eq}
@@ -28,12 +28,12 @@ module _ {S : Type 0} (name : List ℕ) where
   known_as [] = refl
   known_as (c ∷ cs) = ap (λ (b : Bool). bytes_eq c.name name || b) (known_as cs)
 
-  -- one that has a place is known
+  -- a connection that has a place is known
   pub known_at : (cs : List (Connection S)) (i : ℕ) → position is_named cs ≡ Some i → is_known (map name_by cs) name ≡ true
   known_at [] i is = cc
   known_at (c ∷ cs) i is = let at = position-Some is_named (c ∷ cs) i c is in known_as (c ∷ cs) ∙ list_any_at is_named (c ∷ cs) i c at.0 at.1
 
-  -- nobody of that name is there
+  -- there is no connection of that name
   pub none_named : (cs : List (Connection S)) → position is_named cs ≡ None → (i : ℕ) (d : Connection S) → i < length cs → is_named (get_or cs i d) ≡ false
   none_named cs none i d within = elim (cases_lt (position_or_len is_named cs) (length cs)) [
     | inl less ↦
@@ -61,7 +61,7 @@ module _ {S : Type 0} (name : List ℕ) where
       let rest = line_at seen front m ls cs i d are.1 (omega (arith, within)) here (λ k h. before (suc k) (omega (arith, h))) in
       (rest.0, ap (λ (b : Bool). cond b (Some l) (line_named name ls)) other ∙ rest.1, rest.2)
 
-  -- where nobody has the name, no line has it
+  -- if no connection has the name, no line has it
   pub no_line : (seen : S → SeatRecord) (front : Front) (m : Told) (ls : List Line) (cs : List (Connection S)) → AreLines seen front m ls cs
       → ((i : ℕ) (d : Connection S) → i < length cs → is_named (get_or cs i d) ≡ false) → line_named name ls ≡ None
   no_line seen front m [] cs are none = refl
@@ -80,15 +80,15 @@ module _ {S : Type 0} (name : List ℕ) where
   room_by cs b room =
       ap (λ (n : ℕ). is_known (map name_by cs) name || nat_lt n max_names) (length_names cs) ∙ ap (λ (b : Bool). is_known (map name_by cs) name || b) room
 
-  -- while there are few names, there is room for each
+  -- while there are few names, there is room for each one
   pub room_short : (cs : List (Connection S)) → length cs < max_names → has_room (map name_by cs) name ≡ true
   room_short cs few = room_by cs true (grind (arith, nat_tests)) ∙ or_true (is_known (map name_by cs) name)
 
-  -- for one that isn't known there is room while there are few
+  -- while there are few names, there is room for one that isn't known
   pub room_left : (cs : List (Connection S)) → None ≡ position is_named cs → has_room (map name_by cs) name ≡ nat_lt (length cs) max_names
   room_left cs at = room_by cs (nat_lt (length cs) max_names) refl ∙ ap (λ (b : Bool). b || nat_lt (length cs) max_names) (unknown cs (sym at))
 
-  -- else for those that are known
+  -- otherwise there is room for those that are known
   pub room_full : (cs : List (Connection S)) (o : Option ℕ) → o ≡ position is_named cs → max_names ≤ length cs → has_room (map name_by cs) name ≡ is_some o
   room_full cs None at full = room_by cs false (grind (arith, nat_tests)) ∙ ap (λ (b : Bool). b || false) (unknown cs (sym at))
   room_full cs (Some i) at full = room_by cs false (grind (arith, nat_tests)) ∙ ap (λ (b : Bool). b || false) (known_at cs i (sym at))

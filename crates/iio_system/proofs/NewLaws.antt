@@ -1,4 +1,4 @@
--- A connection that comes.
+-- A connection that is new.
 use Rattle.std.proofs.Common.{◌≡◌, ℕ, suc, ◌||◌, Bool, true, false, cond, List, [], ◌∷◌, ◌++◌, length, map, Option, Some, None, option_map, is_some, refl, sym, ap, ◌∙◌, subst, true≢false}
 use Rattle.std.specs.Str.{bytes_eq}
 use Rattle.iiod_grammar.specs.Stream.{InLine, items_from, scanner_after}
@@ -25,7 +25,7 @@ use Rattle.iio_system.specs.System.{AreLines, Stands}
 use Rattle.iio_system.proofs.FedLaws.{HasArrived, user_of_line}
 use Rattle.iio_system.proofs.LineLaws.{OthersAre, clients_kept, every_line_there, other_arrived, others_are, others_move}
 
--- nobody of that name is there
+-- there is no connection of that name
 pub none_in : (name : List ℕ) (ls : List Line) → line_named name ls ≡ None → is_in (map name_of ls) name ≡ false
 none_in name [] none = refl
 none_in name (l ∷ ls) none = by (bytes_eq l.user.who name) none (none_in name ls)
@@ -65,7 +65,7 @@ last_named name f x (l ∷ ls) who none own =
     by false none rest = rest none
 
 module _ {S : Type 0} (seen : S → SeatRecord) where
-  -- one more at the end of both
+  -- another one at the end of both
   others_more : (front : Front) (m : Told) (name : List ℕ) (ls : List Line) (cs : List (Connection S)) (x : Line) (c : Connection S) → c.name ≡ x.user.who
       → bytes_eq x.user.who name ≡ true
       → OthersAre seen front m name ls cs → OthersAre seen front m name (ls ++ x ∷ []) (cs ++ c ∷ [])

@@ -58,11 +58,11 @@ use Rattle.iio_system.proofs.ToldLemmas.{fronts_by, kind_is, machine_by, shape_i
 
 -- ---- the mask of all channels
 
--- it is one of the device's
+-- it is a mask of the device
 pub full_below : (c : ℕ) → 2 ^ c - 1 < 2 ^ c
 full_below c = let some : 1 ≤ 2 ^ c = pow_pos c in omega (arith, some)
 
--- and all channels of a device have data among them
+-- the channels of a device include a data channel
 pub full_has : (shape : ShapeRecord) → 0 < length shape.channels → has_data shape (full_mask shape) ≡ true
 full_has shape some = by (length shape.channels) refl
   where
@@ -81,7 +81,7 @@ as_many triggers states e =
 
 -- ---- places
 
--- a place at a trigger is none of its entries
+-- a change of the places at a trigger leaves its entries
 places_tell : (b : Bool) (places : List Place) (s s' : State) → s' ≡ cond b (record s { attached = places }) s → trigger_of s' ≡ trigger_of s
 places_tell true places s s' e = ap trigger_of e
 places_tell false places s s' e = ap trigger_of e
@@ -107,12 +107,12 @@ pub attached_plugged : (b : Bool) (site : Site ℕ) → (attached b site).plugge
 attached_plugged true site = refl
 attached_plugged false site = refl
 
--- a member more that is no inner one of averaging device j
+-- another member, which isn't the inner one of averaging device j
 pub inner_more : (j : ℕ) (ms : List Member) (m : Member) → is_inner_of j m ≡ false → list_any (is_inner_of j) (ms ++ m ∷ []) ≡ list_any (is_inner_of j) ms
 inner_more j [] m none = ap (λ (b : Bool). b || false) none
 inner_more j (x ∷ ms) m none = ap (λ (b : Bool). is_inner_of j x || b) (inner_more j ms m none)
 
--- an inner member is nobody's to take away
+-- a seat can't take an inner member away
 pub inner_left : (n j : ℕ) (ms : List Member) → list_any (is_inner_of j) (filter (λ (x : Member). not (is_seat_of n x)) ms) ≡ list_any (is_inner_of j) ms
 inner_left n j [] = refl
 inner_left n j (x ∷ ms) = by x.inner (x.number == n) (inner_left n j ms)
@@ -130,7 +130,7 @@ pub some_more : (ms : List Member) (m : Member) → is_empty (ms ++ m ∷ []) �
 some_more [] m = refl
 some_more (x ∷ ms) m = refl
 
--- a device that has a member, and keeps one, keeps its place
+-- a device that has a member and keeps one keeps its place
 members_kept : (st st' : Station) → is_empty st.members ≡ false → is_empty st'.members ≡ false → st'.site.trigger ≡ st.site.trigger
     → st'.site.attachment ≡ st.site.attachment → KeepsPlace st st'
 members_kept st st' some some' trigger attachment = record {
@@ -138,18 +138,18 @@ members_kept st st' some some' trigger attachment = record {
   attachment = attachment;
 }
 
--- and so does one that has none, and gets none
+-- a device that has no member and gets none keeps its place
 none_kept : (st st' : Station) → is_empty st.members ≡ true → is_empty st'.members ≡ true → st'.site.attachment ≡ st.site.attachment → KeepsPlace st st'
 none_kept st st' none none' attachment = record {
   attached = λ t. none_attached t st' none' ∙ sym (none_attached t st none);
   attachment = attachment;
 }
 
--- a device on no trigger has no member
+-- a device without a trigger has no member
 pub hosted_none : (n : ℕ) (st : Station) → st.site.trigger ≡ None → is_hosted n st ≡ true → is_empty st.members ≡ true
 hosted_none n st none h = sym (ap (λ (o : Option ℕ). hosts n (is_empty st.members) o) none) ∙ h
 
--- and one that is on a trigger is on one of those that are there
+-- a device with a trigger has one of those that are there
 pub hosted_within : (n t : ℕ) (st : Station) → st.site.trigger ≡ Some t → is_hosted n st ≡ true → t < n
 hosted_within n t st on h =
     let there : nat_lt t n ≡ true = sym (ap (λ (o : Option ℕ). hosts n (is_empty st.members) o) on) ∙ h in
@@ -159,20 +159,20 @@ none_filtered : (p : Member → Bool) (ms : List Member) → is_empty ms ≡ tru
 none_filtered p [] e = refl
 none_filtered p (m ∷ ms) e = absurd (cc)
 
--- nobody leaves a device without a member
+-- no member leaves a device without one
 left_none : (n : ℕ) (st : Station) → st.members ≡ [] → station_after_leave n st ≡ st
 left_none n st none =
     let left_by : station_after_leave n st ≡ (let x : Station = record st { members = [] } in x) = rw none refl in
     left_by ∙ ap (λ (ms : List Member). (let x : Station = record st { members = ms } in x)) (sym none)
 
--- and no inner member leaves there
+-- no inner member leaves a device without a member
 pub gone_none : (j : ℕ) (st : Station) → is_empty st.members ≡ true → inner_gone j st ≡ st
 gone_none j st empty =
     let none = empty_list st.members empty in
     let gone_by : inner_gone j st ≡ (let x : Station = record st { members = [] } in x) = rw none refl in
     gone_by ∙ ap (λ (ms : List Member). (let x : Station = record st { members = ms } in x)) (sym none)
 
--- ---- what holds after a join and a leave
+-- ---- what holds after a joining and a leaving
 
 module _ (triggers : List TriggerDesc) (states : List State) (sts : List Station) (k t : ℕ) (st st' : Station) (s s' : State)
     (bench : IsBench triggers states sts) (at : slice_get sts k ≡ Some st) (there : slice_get states t ≡ Some s)
@@ -222,14 +222,14 @@ module _ (triggers : List TriggerDesc) (states : List State) (sts : List Station
       (λ none. ap (λ (x : Station). is_empty x.members) is ∙ none_filtered (λ (x : Member). not (is_seat_of n x)) st.members none)
       (ap (λ (x : Station). x.site) is) after
 
-  -- its inner member of averaging device j leaves
+  -- the inner member of averaging device j leaves it
   pub bench_gone : (j : ℕ) → st' ≡ inner_gone j st → s' ≡ place_left k st st' s → IsBench triggers (set states t s') (set sts k st')
   bench_gone j is after =
       gone_by (is_empty st.members) (is_empty st'.members) refl refl
       (λ none. ap (λ (x : Station). is_empty x.members) is ∙ none_filtered (λ (x : Member). not (is_inner_of j x)) st.members none)
       (ap (λ (x : Station). x.site) is) after
 
--- ---- what holds of the devices holds whatever they sample by
+-- ---- what holds of the devices holds whichever driver they sample by
 
 module _ {X : Type 0} {V : X → Type 0} (p q : Plug X V → Driver) where
   places_as : (t dev : ℕ) (ds : List (AnyDevice X V)) → places_from dev t (map (any_station p) ds) ≡ places_from dev t (map (any_station q) ds)
@@ -298,7 +298,7 @@ plain_of Input e = refl
 plain_of Output e = refl
 plain_of (Average b window) e = absurd (cc)
 
--- a writer alone may have a cycle
+-- only a writer may have a cycle
 pub cycle_written : (cyclic b : Bool) → b ≡ true → (cyclic && not b) ≡ false
 cycle_written true b e = ap not e
 cycle_written false b e = refl
@@ -322,7 +322,7 @@ pub mean_trigger : (front : Front) (m : Machine) (k base window : ℕ) → kind_
 unfolding trigger_told_of
 mean_trigger front m k base window is = ap (λ (kind : Kind). trigger_by kind m k) is
 
--- a device that is no averaging one by its number
+-- a device that isn't an averaging one, by its number
 pub plain_at : {X : Type 0} {V : X → Type 0} (context : List ℕ) (triggers : List TriggerDesc) (ds : List (AnyDevice X V)) (k : ℕ) (d : AnyDevice X V)
     → slice_get ds k ≡ Some d
     → is_average (kind_at (fronts_by any_front context triggers ds) k) ≡ false → is_average (any_front d).kind ≡ false
@@ -333,7 +333,7 @@ module _ {X : Type 0} {V : X → Type 0} (drive : Plug X V → Driver) where
       → IsBench triggers states (stations_by drive ds)
   sound_any triggers states ds sound = sound_as (λ p. no_driver) drive triggers states ds sound
 
-  -- a device that is no averaging one is hosted
+  -- a device that isn't an averaging one is hosted
 
   module _ (triggers first : ℕ) (ds : List (AnyDevice X V)) (averaged : IsAveraged triggers first (map any_front ds) (stations_by (λ p. no_driver) ds)) (k : ℕ)
       (d : AnyDevice X V) (at : slice_get ds k ≡ Some d)
@@ -353,7 +353,7 @@ module _ {X : Type 0} {V : X → Type 0} (drive : Plug X V → Driver) where
   hosted_by_states triggers states ds first sound averaged k d at plain =
       rw (as_many triggers states sound.places) (hosted_at (length triggers) first ds averaged k d at plain)
 
-  -- a trigger that it is on is there
+  -- the device's trigger is there
   pub within_states : (triggers : List TriggerDesc) (states : List State) (ds : List (AnyDevice X V)) (first : ℕ)
       → IsBench triggers states (stations_by (λ p. no_driver) ds)
       → IsAveraged (length triggers) first (map any_front ds) (stations_by (λ p. no_driver) ds) → (k t : ℕ) (d : AnyDevice X V) → slice_get ds k ≡ Some d
@@ -433,7 +433,7 @@ module _ {X : Type 0} {V : X → Type 0} (drive : Plug X V → Driver) where
     }
     open_seat mask st st' s s' (Err x) j = tt
 
-    -- where it is hosted by a trigger that is there, that one has a place for it
+    -- if it is hosted by a trigger that is there, that has a place for it
     pub open_may : (mask t : ℕ) (s : State) → HostsAny states (any_front d).kind (number_by d) (any_front d).shape (any_station drive d) mask (Ok t)
         → slice_get states t ≡ Some s
         → first_refusal (any_refusals (has_no_place (number_by d) s) (any_front d).kind (any_front d).shape (any_station drive d) mask) ≡ None
@@ -441,7 +441,7 @@ module _ {X : Type 0} {V : X → Type 0} (drive : Plug X V → Driver) where
         let lacks : lacks_place (number_by d) states (any_station drive d).site.trigger ≡ has_no_place (number_by d) s = rw (hosts.0, there) refl in
         ap (λ (b : Bool). first_refusal (any_refusals b (any_front d).kind (any_front d).shape (any_station drive d) mask)) (sym lacks) ∙ hosts.2
 
-  -- ---- what holds after a join and a leave
+  -- ---- what holds after a joining and a leaving
 
   module _ (triggers : List TriggerDesc) (states : List State) (ds : List (AnyDevice X V)) (k t : ℕ) (d d' : AnyDevice X V) (s s' : State)
       (sound : IsBench triggers states (stations_by (λ p. no_driver) ds)) (numbered : IsNumbered number_by ds) (at : slice_get ds k ≡ Some d)
@@ -467,7 +467,7 @@ module _ {X : Type 0} {V : X → Type 0} (drive : Plug X V → Driver) where
         (map_at (any_station drive) ds k d at) there own within n is
         (subst (λ (i : ℕ). s' ≡ place_left i (any_station drive d) (any_station drive d') s) (numbered k d at) after))
 
-  -- ---- what averaging devices have to do with, after a call at a device that is no averaging one
+  -- ---- what concerns averaging devices, after a call at a device that isn't one
 
   module _ (triggers first : ℕ) (ds : List (AnyDevice X V)) (k : ℕ) (d d' : AnyDevice X V)
       (averaged : IsAveraged triggers first (map any_front ds) (stations_by (λ p. no_driver) ds)) (at : slice_get ds k ≡ Some d)
@@ -493,7 +493,7 @@ module _ {X : Type 0} {V : X → Type 0} (drive : Plug X V → Driver) where
         by_base (kept.hosted (hosted_at triggers first ds averaged k d at plain))
         (record { plugged = kept.plugged; inner = kept.inner; captures = kept.captures })
 
-  -- a join and a leave of a connection
+  -- a joining and a leaving of a connection's member
 
   module _ (triggers first : ℕ) (ds : List (AnyDevice X V)) (k t : ℕ) (d d' : AnyDevice X V)
       (averaged : IsAveraged triggers first (map any_front ds) (stations_by (λ p. no_driver) ds)) (at : slice_get ds k ≡ Some d)

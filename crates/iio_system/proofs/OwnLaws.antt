@@ -91,7 +91,7 @@ module _ {S : Type 0} (seen : S → SeatRecord) where
       either true b h = absurd (cc)
       either false b h = (refl, h)
 
-  -- the others, and the one that was heard
+  -- the other lines, and that of the connection that was heard
   pub rejoined : (front : Front) (m : Told) (name : List ℕ) (o : Option (SessionRecord S)) (i : ℕ) (d : Connection S) (ls : List Line)
       (cs : List (Connection S)) (l : Line)
       → AreDistinct (map name_of ls) → OthersAre seen front m name ls cs → line_named name ls ≡ Some l

@@ -1,4 +1,4 @@
--- The places at a trigger, where a device is attached or detached.
+-- The places at a trigger when a device is attached or detached.
 use Rattle.std.proofs.Common.{◌≡◌, ℕ, zero, suc, ◌+◌, ◌<◌, Bool, true, false, List, [], ◌∷◌, map, length, set, slice_get, Some, refl, ap, ◌∙◌, arith, cond}
 use Rattle.std.specs.Prelude.{◌==◌, nat_lt, ℤ}
 use Rattle.std.proofs.lemmas.Bool.Decides.{nat_tests}
@@ -10,11 +10,11 @@ use Rattle.iio_kinds.specs.Places.{handed_of}
 use Rattle.iio_system.specs.Triggers.{places_from}
 
 module _ (trigger : ℕ) where
-  -- whether a device is attached to it
+  -- whether a device is attached to the trigger
   abbrev is_on : Station → Bool
   is_on st = is_attached trigger (attachment_of st)
 
-  -- a device that stays at its place
+  -- a device that keeps its place
   pub places_kept : (dev : ℕ) (sts : List Station) (k : ℕ) (st st' : Station) → slice_get sts k ≡ Some st → is_on st' ≡ is_on st
       → st'.site.attachment ≡ st.site.attachment → places_from dev trigger (set sts k st') ≡ places_from dev trigger sts
   places_kept dev [] k st st' at e a = refl
@@ -32,7 +32,7 @@ module _ (trigger : ℕ) where
       ap (λ (rest : List Place). cond (is_on y) (record { dev = dev; attachment = y.site.attachment } ∷ rest) rest)
       (places_kept (suc dev) ys k st st' at e a)
 
-  -- one that has none
+  -- a device that has no place
   pub places_none : (dev : ℕ) (sts : List Station) (k : ℕ) (st st' : Station) → slice_get sts k ≡ Some st → is_on st ≡ false
       → is_on st' ≡ false
       → places_from dev trigger (set sts k st') ≡ places_from dev trigger sts
@@ -53,7 +53,7 @@ module _ (trigger : ℕ) where
       by true h = ap (λ (n : ℕ). suc n) h
       by false h = h
 
-  -- devices after this one hold off place of its
+  -- the places of devices after this one aren't its
   held_later : (n dev : ℕ) (sts : List Station) → n < dev → holds_place n (places_from dev trigger sts) ≡ false
   held_later n dev [] h = refl
   held_later n dev (y ∷ ys) h = by (is_on y) (held_later n (suc dev) ys (omega arith))
@@ -78,7 +78,7 @@ module _ (trigger : ℕ) where
       by true i = let other : (dev == n) ≡ false = grind (arith, nat_tests) in rw other i
       by false i = i
 
-  -- a place more, before those of the devices after it
+  -- another place, before those of the devices after it
   placed_first : (n a dev : ℕ) (sts : List Station) → n < dev
       → with_place n a (places_from dev trigger sts) ≡ record { dev = n; attachment = a } ∷ places_from dev trigger sts
   placed_first n a dev [] h = refl

@@ -57,7 +57,7 @@ pub names_kept : (cs : List (Connection Seat)) (i : ℕ) (c c' : Connection Seat
     → c'.name ≡ c.name → map name_by (set cs i c') ≡ map name_by cs
 names_kept cs i c c' name at is same = names_set cs i c c' (position-Some (is_named name) cs i c (sym at)).0 (same ∙ ap name_by is)
 
--- one that comes is the last
+-- a connection that is new is the last
 pub names_new : (cs : List (Connection Seat)) (c' : Connection Seat) (name bytes : List ℕ) → None ≡ position (is_named name) cs → c'.name ≡ name
     → map name_by (cs ++ c' ∷ []) ≡ names_with (map name_by cs) (Feed name bytes)
 names_new cs c' name bytes at same =

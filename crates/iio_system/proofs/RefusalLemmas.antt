@@ -1,4 +1,4 @@
--- The refusals of a member more at a bench are those beside its triggers.
+-- The refusals of another member at a bench are those by its triggers.
 use Rattle.std.proofs.Common.{◌≡◌, ℕ, zero, suc, ◌-◌, ◌^◌, Bool, true, false, List, [], ◌∷◌, map, length, slice_get, Option, Some, None, refl, ap, ◌∙◌, arith}
 use Rattle.std.specs.Prelude.{◌==◌, ◌&&◌, ◌||◌, not, nat_lt, is_none}
 use Rattle.std.specs.Option.{option_map_or}
@@ -60,7 +60,7 @@ full_same : (b x y z : Bool) → (b ≡ true → y ≡ x) → (((b && y) || z) |
 full_same true x y z same = rw (same refl) (or_twice x z)
 full_same false x y z same = or_twice false z
 
--- the refusals over the machine are those beside the triggers
+-- the refusals by the plain state are those by the triggers
 pub refusals_any : (front : Front) (states : List State) (sts : List Station) (k : ℕ) (kind : Kind) (shape : ShapeRecord) (st : Station) (mask : ℕ)
     → IsBench front.triggers states sts → slice_get sts k ≡ Some st
     → first_refusal (open_refusals front sts kind (own_host st shape mask (masks_of st.members)) st)

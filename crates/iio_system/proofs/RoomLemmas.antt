@@ -6,7 +6,7 @@ use Rattle.std.proofs.Math.Seq.{take-append-add, take-append_seam}
 use Rattle.std.proofs.lemmas.List.{append_assoc, length-append, length-drop, length-take-le, take-append-le, take-take, take_all}
 use Rattle.std.proofs.lemmas.Simd.{put_chunk_is}
 
--- what was printed stands, and the line after it
+-- what was printed is still there, and the line after it
 pub line_stands : (old more room after final line : List ℕ) (start n end : ℕ) → start ≡ length old → room ≡ take (start + n) old ++ more
     → take end after ≡ take start room ++ line → final ≡ take end after → final ≡ old ++ line
 line_stands old more room after final line start n end long is put cut =
@@ -15,7 +15,7 @@ line_stands old more room after final line start n end long is put cut =
     ap (λ xs. take start xs) (is ∙ ap (λ xs. xs ++ more) all) ∙ ap (λ k. take k (old ++ more)) long ∙ take-append_seam old more in
     cut ∙ put ∙ ap (λ xs. xs ++ line) kept
 
--- the first bytes of a block that stands at the begin of a room, whatever comes after it
+-- the first bytes of a block at the beginning of a room, whatever comes after it
 block_first : (room block after tail : List ℕ) (n k : ℕ) → n ≤ length room → n ≤ length block → k ≤ n
     → take k ((put_chunk 0 room (chunk 0 n block) ++ after) ++ tail) ≡ take k block
 block_first room block after tail n k fits whole most =
@@ -30,7 +30,7 @@ block_first room block after tail n k fits whole most =
     ∙ take-append-le k lanes rest (omega (arith, most, long))
     ∙ take-take k n block most
 
--- what stands before a place, and the first bytes of a block that was put there
+-- what comes before a place, and the first bytes of a block that was put there
 pub block_stands : (items room block tail : List ℕ) (at n k len : ℕ) → room ≡ items → len ≡ length items → at + n ≤ length items → n ≤ length block → k ≤ n
     → take (at + k) (take len (put_mid at (length room - at) room (put_chunk 0 (mid_of at (length room - at) room) (chunk 0 n block)) ++ tail)) ≡ take at items
     ++ take k block

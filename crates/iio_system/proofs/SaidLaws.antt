@@ -1,4 +1,4 @@
--- What a guard is told, as the items that it decides of.
+-- What a guard is told, as the items that it decides on.
 use Rattle.std.proofs.Common.{◌≡◌, ℕ, ◌<◌, ◌≤◌, ◌&&◌, min, nat_lt, Bool, true, false, cond, List, [], ◌∷◌, length, Option, Some, None, Ok, Err, refl, sym, ap, ◌∙◌, arith}
 use Rattle.std.specs.Str.{bytes_eq}
 use Rattle.std.proofs.lemmas.Bool.Decides.{nat_tests}
@@ -21,7 +21,7 @@ use Rattle.iio_kinds.specs.declared.seat.Seat.{Seat}
 use Rattle.iio_system.specs.Guard.{MeetsBeside, TellsAll, Watches, connections_of, client_by, client_named, clients_besides, guards, item_by, opens_at}
 use Rattle.iio_system.specs.Seat.{seen_of}
 
--- ---- another connection's
+-- ---- of another connection
 
 pub refused_said : (f : List ℕ → Bool) (x : Item) → IsSeen x Refused → true ≡ may_say f x
 refused_said f (Said (Err why)) told = refl
@@ -59,7 +59,7 @@ command_said f (End (Some EFBIG)) command told = large_said f (command_view comm
 command_said f (End (Some E2BIG)) command told = absurd told
 command_said f (End (Some e)) command told = absurd told
 
--- ---- the watched connection's own
+-- ---- of the watched connection itself
 
 pub refused_parts : (o : Opens) (x : Item) → IsSeen x Refused → true ≡ may_part o x
 refused_parts o (Said (Err why)) told = refl
@@ -133,7 +133,7 @@ told_all front (item ∷ items) x y told =
     told_all front items told.0 y told.4 ∙ ap (λ (u : Guard). meeting u (u.meets && items_meet (opens_at front u) u.mine items)) told.3
     ∙ ap (λ (b : Bool). meeting x b) (and_more x.meets (item_meets (opens_at front x) x.mine item) (items_meet (opens_at front x) x.mine items))
 
--- a guard that was told a feed tells whether it keeps to the rules
+-- a guard that was told of a feed says whether it keeps to the rules
 pub beside_meets : (name bytes : List ℕ) (front : Front) (machine : Option Machine) (session : Option (SessionRecord Seat)) (watched : List ℕ)
     (others : List (Connection Seat)) (x y : Guard)
     → x.meets ≡ true → x.mine ≡ bytes_eq name watched → x.watched.now ≡ watched → client_by seen_of x.own ≡ client_named seen_of watched others

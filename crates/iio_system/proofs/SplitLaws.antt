@@ -1,4 +1,4 @@
--- A connection that is fed where it stands, between those before it and those after it.
+-- A connection that is fed at its place, between those before it and those after it.
 use Rattle.std.proofs.Common.{◌≡◌, ℕ, List, [], ◌∷◌, ◌++◌, drop, length, map, get_or, set, take, take_at, length-set, Option, Some, Result, OnOk, refl, sym, ap, ◌∙◌, subst}
 use Rattle.std.specs.List.{position}
 use Rattle.std.proofs.lemmas.List.Elements.{All-set}
@@ -19,7 +19,7 @@ use Rattle.iio_system.specs.Standing.{MakesFeed, name_by, names_with}
 use Rattle.iio_system.proofs.NameLaws.{is_named}
 use Rattle.iio_system.proofs.PlayLaws.{feeds_there, names_kept, names_there}
 
--- it stands between these, at the place of that name
+-- it is between these, at the place of that name
 pub record StandsAt (name : List ℕ) (cs before : List (Connection Seat)) (c : Connection Seat) (after : List (Connection Seat)) : Type 0 where
   pub parts : cs ≡ before ++ c ∷ after
   pub place : Some (length before) ≡ position (is_named name) cs
@@ -49,7 +49,7 @@ module _ (name : List ℕ) (cs before : List (Connection Seat)) (c : Connection 
   pub put : (c' : Connection Seat) → set cs (length before) c' ≡ before ++ c' ∷ after
   put c' = ap (λ (ds : List (Connection Seat)). set ds (length before) c') at.parts ∙ set_there before c c' after
 
-  -- the list of a vector of so many that was written there
+  -- the list of a vector of that length that was written there
   pub written : (n : ℕ) (c' : Connection Seat) → length cs ≡ n
       → take n ((before ++ c' ∷ after) ++ drop (length (before ++ c' ∷ after)) cs) ≡ before ++ c' ∷ after
   written n c' many =

@@ -1,4 +1,4 @@
--- The averaging devices of a bench beside the others.
+-- The averaging devices of a bench and the others.
 use Rattle.std.proofs.Common.{◌≡◌, ℕ, zero, suc, ◌+◌, ◌<◌, Bool, true, false, cond, All, List, [], ◌∷◌, ◌++◌, map, length, take, drop, slice_get, Some, refl, sym, ap, subst, ◌∙◌, arith}
 use Rattle.std.specs.Option.{option_map_or}
 use Rattle.iio_sensor.specs.Driver.{Driver}
@@ -33,7 +33,7 @@ there_of [] i x at = absurd (cc)
 there_of (z ∷ zs) zero x at = omega arith
 there_of (z ∷ zs) (suc i) x at = let more = there_of zs i x at in omega (arith, more)
 
--- what was written through all of a vector is all of it
+-- what was written over a whole vector is all of it
 pub refilled : {A : Type 0} (n : ℕ) (ws old : List A) → length ws ≡ n → length old ≡ n → take n (ws ++ drop (length ws) old) ≡ ws
 refilled zero [] [] many same = refl
 refilled zero [] (x ∷ old) many same = absurd (omega (arith, same))
@@ -65,7 +65,7 @@ module _ {X : Type 0} {V : X → Type 0} (drive : Plug X V → Driver) (base : �
           (subst (λ (z : AnyDevice X V). IsGathered drive base scan o z) two (stays o (plain zero o refl)))
       by rest (suc i) d d' at at' = rest.each i d d' at at'
 
-  -- the averaging devices stand after the others
+  -- the averaging devices come after the others
   pub gathered_beside : (first : ℕ) (os xs ys old : List (AnyDevice X V)) → old ≡ os ++ xs → length os ≡ first → HasBases first (map any_front old)
       → AreGathered drive base scan xs ys → AreGathered drive base scan old (os ++ ys)
   gathered_beside first os xs ys old is many bases all =
@@ -76,7 +76,7 @@ module _ {X : Type 0} {V : X → Type 0} (drive : Plug X V → Driver) (base : �
       sym (ap is_average (kind_there old i o there)) ∙ bases.others i (omega (arith, less, many))
       )) all)
 
--- the scan that stands at a base
+-- the scan that is kept at a base
 pub scan_before : {X : Type 0} {V : X → Type 0} (base : ℕ) (os xs old : List (AnyDevice X V)) (d : AnyDevice X V) → old ≡ os ++ xs → slice_get os base ≡ Some d
     → full_scan_by d ≡ scan_at base old
 scan_before {X = X} {V = V} base os xs old d is at =
@@ -88,12 +88,12 @@ module _ {X : Type 0} {V : X → Type 0} (drive : Plug X V → Driver) (dev i : 
   abbrev gone_by : Bool → Station
   gone_by goes = cond goes (with_site unplugged (any_station drive x)) (any_station drive x)
 
-  -- a device that goes
+  -- a device that is unplugged
   pub goes_too : is_unplugged_by (any_front x).kind dev i ≡ true → any_station drive x' ≡ with_site unplugged (any_station drive x) → KeepsFront x x'
       → IsUnplugged drive dev i x x'
   goes_too goes station keeps = record { keeps = keeps; station = station ∙ sym (ap (λ (b : Bool). gone_by b) goes) }
 
--- one that stays
+-- a device that stays
 pub stays_here : {X : Type 0} {V : X → Type 0} (drive : Plug X V → Driver) (dev i : ℕ) (x : AnyDevice X V) → is_unplugged_by (any_front x).kind dev i ≡ false
     → IsUnplugged drive dev i x x
 stays_here drive dev i x stays = record {

@@ -1,4 +1,4 @@
--- A new bench holds what stands before the first step.
+-- A new bench holds the state before the first step.
 use Rattle.std.proofs.Common.{◌≡◌, ℕ, suc, zero, ◌+◌, ◌<◌, ◌≤◌, ◌*◌, ◌-◌, ◌^◌, List, [], ◌∷◌, ◌++◌, map, fold, length, slice_get, slice_index_or, Option, Some, None, option_map, All, refl, sym, ap, ◌∙◌, subst, arith}
 use Rattle.std.specs.Prelude.{◌==◌, ◌||◌, ℤ}
 use Rattle.iio_sensor.specs.Driver.{Driver}
@@ -52,7 +52,7 @@ some_in P head each (x ∷ xs) all rest more zero d within = each x (all 0 x (om
 some_in P head each (x ∷ xs) all rest more (suc i) d within =
     some_in P head each xs (λ j e inside. all (suc j) e (omega (arith, inside))) rest more i d (omega (arith, within))
 
--- an averaging device has its base's
+-- an averaging device has its base's channels
 average_some : (devices : List DeviceRecord) (x : AverageRecord) → x.base < length devices → All (λ (d : DeviceRecord). 0 < length d.shape.channels) devices
     → 0 < length (average_shape devices x).channels
 average_some devices x within all = by devices x.base within all
@@ -88,7 +88,7 @@ written_all site (a ∷ attrs) =
 last_at : (s : Setup) (k : ℕ) (d : Device) → slice_get (first_devices s) k ≡ Some d → last_of s k [] ≡ first_last d.shape
 last_at s k d at = ap (λ (o : Option Device). elim o [ None ↦ [] | Some x ↦ first_last x.shape ]) at
 
--- one device is told as it stands at a bench
+-- a device of a bench is told as it is
 pub record IsFirst (s : Setup) (d : Device) (st : MachineStation) : Type 0 where
   pub site : site_by [] d.site ≡ st.site
   pub window : d.window ≡ st.window

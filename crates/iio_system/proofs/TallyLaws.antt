@@ -39,7 +39,7 @@ module _ {X : Type 0} {V : X → Type 0} where
   abbrev kind_by : AnyDevice X V → Kind
   kind_by d = (any_front d).kind
 
-  -- devices and stations that are told alike, of one kind each, count alike
+  -- devices and stations that are told alike, and are of the same kinds, count alike
   sum_told : (driver : Plug X V → Driver) (names : List (List ℕ)) (f : AnyDevice X V → ℕ) (g : ToldStation → ℕ)
       → ((d : AnyDevice X V) (st : ToldStation) → any_station driver d ≡ bench_by names st → kind_by d ≡ st.kind → f d ≡ g st)
       → (ds : List (AnyDevice X V)) (sts : List ToldStation) → map (any_station driver) ds ≡ map (bench_by names) sts

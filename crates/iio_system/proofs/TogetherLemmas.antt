@@ -6,7 +6,7 @@ use Rattle.iio_system.specs.Together.{Together}
 use Rattle.iio_system.proofs.ListLemmas.{after_set, length_after}
 
 module _ {D : Type 0} (R : ℕ → D → D → Type 0) where
-  -- those before number i have changed, and those from it on are as they were
+  -- the elements before number i have changed, and those from it on are as they were
   pub record Partly (i : ℕ) (old new : List D) : Type 0 where
     pub same : length new ≡ length old
     pub done : (k : ℕ) (d d' : D) → k < i → slice_get old k ≡ Some d → slice_get new k ≡ Some d' → R k d d'
@@ -45,7 +45,7 @@ module _ {D : Type 0} (R : ℕ → D → D → Type 0) where
       others (z ∷ zs) zero (suc k) y less = refl
       others (z ∷ zs) (suc i) (suc k) y less = others zs i k y (omega (arith, less))
 
-  -- or stays
+  -- number i stays
   pub partly_stays : (i : ℕ) (old new : List D) (x : D) → slice_get new i ≡ Some x → R i x x → Partly i old new → Partly (i + 1) old new
   partly_stays i old new x here stays p = subst (λ (ys : List D). Partly (i + 1) old ys) (same new i x here) (partly_next i old new x x here stays p)
     where
@@ -54,7 +54,7 @@ module _ {D : Type 0} (R : ℕ → D → D → Type 0) where
       same (y ∷ ys) zero x at = let one : x ≡ y = cc in ap (λ (z : D). z ∷ ys) one
       same (y ∷ ys) (suc i) x at = ap (λ (zs : List D). y ∷ zs) (same ys i x at)
 
--- what holds of all holds of each
+-- what holds of all elements holds of each
 pub all_at : {A : Type 0} (P : A → Type 0) (xs : List A) (i : ℕ) (x : A) → All P xs → slice_get xs i ≡ Some x → P x
 all_at P [] i x all at = absurd (cc)
 all_at P (y ∷ ys) zero x all at = let one : y ≡ x = cc in subst P one (all 0 y (omega arith))

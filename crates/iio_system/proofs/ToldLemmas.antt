@@ -1,4 +1,4 @@
--- The told state, where one device has changed.
+-- The told state after one device has changed.
 use Rattle.std.proofs.Common.{◌≡◌, ℕ, ◌≤◌, Bool, true, false, List, [], ◌∷◌, map, length, take, set, slice_get, Option, Some, None, Result, Ok, Err, inr, refl, sym, ap, subst, ◌∙◌, arith, cond, length-take}
 use Rattle.std.specs.Prelude.{◌==◌, ℤ, unwrap_or, drop, ⊤}
 use Rattle.std.specs.Option.{option_map_or}
@@ -143,7 +143,7 @@ module _ {D : Type 0} (f : D → Station) (clock : ℤ) (ts : List Trigger) (ds 
   told_take id Empty scan t = (queue_is f clock ts ds k d at id ∙ t.0, plugged_is f clock ts ds k d at ∙ t.1, some_same t.2)
   told_take id Gone scan t = (queue_is f clock ts ds k d at id ∙ t.0, plugged_is f clock ts ds k d at ∙ t.1, some_same t.2)
 
-  -- takes of many scans, by a seat that tells nothing
+  -- takes of many scans, by a seat without a trace
   pub told_take_scans : (s : SeatRecord) (most : ℕ) (took : Took) (before after : List ℕ) → s.trace ≡ None
       → TakesScansAt (seat_id s) most took before after (f d) (f d')
       → TakesScans k most (Some (machine_by f clock ts ds)) (Some (machine_by f clock ts (set ds k d'))) s s before after took

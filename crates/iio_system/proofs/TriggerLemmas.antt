@@ -1,4 +1,4 @@
--- A trigger of a bench: polls, and entries that are handed out and taken off.
+-- A trigger of a bench: polls, and entries that are handed out and removed.
 use Rattle.std.proofs.Common.{◌≡◌, ℕ, suc, ◌<◌, Bool, true, false, List, [], ◌∷◌, map, length, refl, sym, ap, ◌∙◌, arith, cond, not}
 use Rattle.std.specs.Prelude.{◌==◌, ℤ}
 use Rattle.iio_trigger.specs.declared.rows.Place.{Place}

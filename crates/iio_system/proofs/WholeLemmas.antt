@@ -1,4 +1,4 @@
--- A bench of which several devices have changed.
+-- A bench with several devices changed.
 use Rattle.std.proofs.Common.{◌≡◌, ◌⊎◌, ℕ, zero, suc, ◌+◌, ◌-◌, ◌^◌, ◌<◌, ◌≤◌, ℤ, Bool, true, false, All, List, [], ◌∷◌, map, length, set, slice_get, Option, Some, None, inl, inr, refl, sym, ap, subst, ◌∙◌, arith, cond}
 use Rattle.std.specs.Prelude.{◌==◌, ◌&&◌, ◌||◌, not, is_some}
 use Rattle.std.specs.List.{list_any}
@@ -55,14 +55,14 @@ entry_own o c k (Average base window) shape st is =
     stays None = refl
     stays (Some e) = either (is_due e st) st
 
--- another one, where there was a capture
+-- another device, if there was a capture
 entry_other : (o : Option Handed) (c : Capture) (k : ℕ) (kind : Kind) (shape : ShapeRecord) (j : ℕ) (st : Station) → (k == j) ≡ false
     → with_capture k c kind shape st ≡ entry_at o (Some c) k kind shape j st
 entry_other o c k Input shape j st other = sym (ap (λ (b : Bool). cond b (station_after_entry Input shape o st) st) other)
 entry_other o c k Output shape j st other = sym (ap (λ (b : Bool). cond b (station_after_entry Output shape o st) st) other)
 entry_other o c k (Average base window) shape j st other = refl
 
--- and where there was none
+-- another device, if there was none
 entry_none : (o : Option Handed) (k : ℕ) (kind : Kind) (shape : ShapeRecord) (j : ℕ) (st : Station) → (k == j) ≡ false
     → st ≡ entry_at o None k kind shape j st
 entry_none o k Input shape j st other = sym (ap (λ (b : Bool). cond b (station_after_entry Input shape o st) st) other)
@@ -71,7 +71,7 @@ entry_none o k (Average base window) shape j st other = sym (either (k == base) 
 
 -- ---- which answers are captures
 
--- a capture is an input device's that can make more
+-- only an input device that can make more captures makes one
 pub record IsCaptured (kind : Kind) (o : Option Handed) (ended : Bool) (shape : ShapeRecord) (st : Station) : Type 0 where
   pub input : kind ≡ Input
   pub goes_on : ended ≡ false
@@ -118,7 +118,7 @@ abbrev pub is_capture : Option Became → Bool
 is_capture (Some (Asked (Captured n))) = true
 is_capture became = false
 
--- another answer made none
+-- another answer made no capture
 none_captured : (kind : Kind) (o : Option Handed) (shape : ShapeRecord) (st : Station) (r : Option Became) → r ≡ entry_answer kind o st
     → is_capture r ≡ false → capture_in kind shape o st ≡ None
 none_captured kind None shape st r is other = refl
@@ -152,7 +152,7 @@ module _ {X : Type 0} {V : X → Type 0} (drive : Plug X V → Driver) (context 
   capture_own =
       rw (kind_is any_front context triggers ds k d at, shape_is any_front context triggers ds k d at, station_is (any_station drive) clock ts ds k d at) refl
 
-  -- device j, as the machine has it after a handling with that capture
+  -- device j, as the plain state has it after a handling with that capture
   abbrev made : Option Capture → ℕ → AnyDevice X V → Station
   made c j x = entry_at o c k (any_front x).kind (any_front x).shape j (any_station drive x)
 
@@ -165,7 +165,7 @@ module _ {X : Type 0} {V : X → Type 0} (drive : Plug X V → Driver) (context 
       ∙ ap (λ (shape : ShapeRecord). entry_at o (capture_at front o k machine) k (kind_at front j) shape j (any_station drive x))
       (sym (shape_is any_front context triggers ds j x there))
 
-  -- all of them
+  -- all devices
   told_by : (c : Option Capture) (ds' : List (AnyDevice X V)) → own_capture ≡ c → length ds' ≡ length ds
       → ((j : ℕ) (x x' : AnyDevice X V) → slice_get ds j ≡ Some x → slice_get ds' j ≡ Some x' → any_station drive x' ≡ made c j x)
       → machine_by (any_station drive) clock ts ds' ≡ machine_after_entry front o k machine
@@ -189,7 +189,7 @@ module _ {X : Type 0} {V : X → Type 0} (drive : Plug X V → Driver) (context 
       by true e = absurd (other (sym (same_number k j e)))
       by false e = refl
 
-  -- without a capture the device alone has changed
+  -- if there was no capture, only the device has changed
   pub told_alone : own_capture ≡ None → machine_by (any_station drive) clock ts (set ds k d') ≡ machine_after_entry front o k machine
   told_alone none = told_by None (set ds k d') none (length_after ds k d') (λ j x x' there there'. each j x x' there (after_set ds k j d' x' there'))
     where
@@ -202,7 +202,7 @@ module _ {X : Type 0} {V : X → Type 0} (drive : Plug X V → Driver) (context 
           let one : x' ≡ x = (let h : Some x' ≡ Some x = sym p.1 ∙ there in cc) in
           ap (any_station drive) one ∙ entry_none o k (any_front x).kind (any_front x).shape j (any_station drive x) (apart j p.0)
 
-  -- with one, each averaging device over it takes it
+  -- if there was one, each averaging device over it takes it
   pub told_gathered : (c : Capture) (scan : List ℕ) (ds' : List (AnyDevice X V)) → own_capture ≡ Some c → (any_front d).kind ≡ Input → KeepsHead d d'
       → AreGathered drive k scan (set ds k d') ds'
       → ((j : ℕ) (x : AnyDevice X V) → slice_get ds j ≡ Some x → (j ≡ k → ⊥) → gathers k (any_front x).kind (any_station drive x) ≡ true
@@ -244,7 +244,7 @@ module _ {X : Type 0} {V : X → Type 0} (drive : Plug X V → Driver) (context 
 
 -- ---- what averaging devices over a device can take
 
--- a scan of all channels of a device is one of the means of its captures
+-- a scan of all channels of a device is also one by the shape of its means
 scan_means : (shape : ShapeRecord) (c : Capture) (scan : List ℕ) → IsScanOf shape c scan → IsScanOf (shape_of_means (Some shape)) c scan
 scan_means shape c scan x = record {
   is = x.is;
@@ -439,7 +439,7 @@ module _ {X : Type 0} {V : X → Type 0} (drive : Plug X V → Driver) (context 
   can_gather (Some (Gave answer)) is = tt
   can_gather None is = tt
 
-  -- where captures go on
+  -- if there may be another capture
   made_at : (b : Bool) → ended ≡ b → any_station drive d' ≡ entry_station (any_front d).kind o b (any_front d).shape (any_station drive d)
   made_at b e = station ∙ ap (λ (x : Bool). entry_station (any_front d).kind o x (any_front d).shape (any_station drive d)) e
 
@@ -515,7 +515,7 @@ module _ {X : Type 0} {V : X → Type 0} (drive : Plug X V → Driver) (context 
       (sym (ap (λ (xs : List (AnyDevice X V)). option_map_or room_by (slice_get xs k) []) after ∙ room_is room_by ds k d d' at)) is
   room_after None members is after = tt
 
--- ---- what holds then
+-- ---- what holds afterwards
 
 module _ {X : Type 0} {V : X → Type 0} (drive : Plug X V → Driver) (context : List ℕ) (triggers : List TriggerDesc)
     (ds ds' : List (AnyDevice X V)) (clock : ℤ) (ts : List Trigger) (fronts : map any_front ds' ≡ map any_front ds) where

@@ -16,20 +16,20 @@ kind_in heads dev = option_map_or (λ (d : DeviceHead). d.kind) (slice_get heads
 abbrev pub shape_in : List DeviceHead → ℕ → ShapeRecord
 shape_in heads dev = option_map_or (λ (d : DeviceHead). d.shape) (slice_get heads dev) no_shape
 
--- a device that one of that shape can average: an input device before number `first`
+-- a device that an averaging device of that shape can be over: an input device before number `first`
 pub record IsBase (first : ℕ) (heads : List DeviceHead) (means : ShapeRecord) (base : ℕ) : Type 0 where
   pub before : base < first
   pub input : kind_in heads base ≡ Input
   pub shape : means ≡ shape_of_means (Some (shape_in heads base))
 
--- the devices from number `first` on are averaging ones, those before it are not, and each one that is has its base
+-- the devices from number `first` on are averaging ones, those before it aren't, and each averaging device has its base
 pub record HasBases (first : ℕ) (heads : List DeviceHead) : Type 0 where
   pub within : first ≤ length heads
   pub others : (dev : ℕ) → dev < first → is_average (kind_in heads dev) ≡ false
   pub averages : (dev : ℕ) → first ≤ dev → dev < length heads → is_average (kind_in heads dev) ≡ true
   pub bases : (j base window : ℕ) → kind_in heads j ≡ Average base window → IsBase first heads (shape_in heads j) base
 
--- averaging device j is plugged where its base is, has its inner member there while it has a member, and has made no more
+-- averaging device j is plugged exactly if its base is, has its inner member there while it has a member, and has made no more
 -- means than its base captures, which can be counted
 pub record HasInner (j : ℕ) (base st : Station) : Type 0 where
   pub plugged : st.site.plugged ≡ base.site.plugged
@@ -37,7 +37,7 @@ pub record HasInner (j : ℕ) (base st : Station) : Type 0 where
   pub fewer : st.captures ≤ base.captures
   pub most : base.captures ≤ 2 ^ 64 - 1
 
--- each device is on one of the triggers or, without a member, on none; an averaging device is by its base
+-- each device has one of the triggers or, without a member, none; for an averaging device its base has it
 pub record IsAveraged (triggers first : ℕ) (heads : List DeviceHead) (stations : List Station) : Type 0 where
   pub bases : HasBases first heads
   pub hosted : (dev : ℕ) → is_average (kind_in heads dev) ≡ false → is_hosted triggers (station_in stations dev) ≡ true

@@ -1,4 +1,4 @@
--- A bench, as contracts see it.
+-- A bench as contracts see it.
 use Rattle.std.specs.Prelude.{ℕ, Bool, false, List, [], map, slice_get}
 use Rattle.std.specs.Option.{option_map_or}
 use Rattle.iio_sensor.specs.Driver.{Driver}
@@ -11,7 +11,7 @@ use Rattle.iio_kinds.specs.Handling.{is_last}
 use Rattle.iio_kinds.specs.Places.{trigger_of}
 use Rattle.iio_kinds.specs.Station.{any_front, captures_by, room_by, stations_by}
 
--- the front, and how many captures each device has made
+-- the front, and the number of captures that each device has made
 pub record Kept : Type 0 where
   pub front : Front
   pub captures : List ℕ
@@ -29,11 +29,11 @@ module _ {X : Type 0} {V : X → Type 0} where
   abbrev pub machine_of : (Plug X V → Driver) → Bench X V → Machine
   machine_of driver b = record { clock = b.clock; triggers = triggers_of b; stations = stations_by driver b.devices.items }
 
-  -- how many captures each device has made
+  -- the number of captures that each device has made
   abbrev pub captures_of : Bench X V → List ℕ
   captures_of b = map captures_by b.devices.items
 
-  -- whether the captures of the device of that number have come to their end: then it makes none more
+  -- whether the device of that number has made its last capture
   abbrev pub has_ended : Bench X V → ℕ → Bool
   has_ended b dev = option_map_or is_last (slice_get (captures_of b) dev) false
 

@@ -14,13 +14,14 @@ use Rattle.iio_history.specs.Bench.{Every, IsBench, IsClientOf, front_of, is_in,
 use Rattle.iio_history.specs.BenchLaw.{CanJoinMore, heard}
 
 module _ {S : Type 0} (seen : S → SeatRecord) where
-  -- a session is the one of this connection, whose stream has begun this much
+  -- a session is that of this connection, with a stream that has begun this much
   pub record IsSessionOf (m : Told) (name : List ℕ) (begun : Scanner) (x : SessionRecord S) : Type 0 where
     pub manner : x.manner ≡ Script
     pub stream : x.stream ≡ no_item begun
     pub client : IsClientOf m name (client_of seen x.client)
 
-  -- the devices and the connection's session as they stand, where bytes of it have arrived: it is there, and numbers last
+  -- the devices and the connection's session when bytes of it have arrived: the connection is there, and members can still be
+  -- numbered
   pub record IsHearing (s : Setup) (m : Told) (front : Front) (told : Option Machine) (name : List ℕ) (begun : Scanner) (bytes : List ℕ) (x : SessionRecord S) :
       Type 0 where
     pub front_is : front ≡ front_of s
@@ -30,7 +31,7 @@ module _ {S : Type 0} (seen : S → SeatRecord) where
     pub session : IsSessionOf m name begun x
     pub room : Every (CanJoinMore (length (items_from begun bytes))) m.stations
 
-  -- the items that bytes make whole were heard
+  -- the items that the bytes make whole were heard
   pub record HasHeard (s : Setup) (m : Told) (told : Option Machine) (name : List ℕ) (begun : Scanner) (bytes : List ℕ) (before after : List ℕ)
       (x : SessionRecord S) : Type 0 where
     pub said : after ≡ before ++ texts s m (heard name (items_from begun bytes))

@@ -1,4 +1,4 @@
--- A connection that is fed.
+-- The feed of a connection.
 use Rattle.std.specs.Prelude.{◌≡◌, ℕ, ◌<◌, All, Bool, true, false, List, [], ◌∷◌, ◌++◌, length, slice_index_or, Option, Some, None, IfSome, if◌then◌else◌}
 use Rattle.std.specs.Str.{bytes_eq}
 use Rattle.iio_text.specs.Escape.{quoted}
@@ -17,7 +17,7 @@ use Rattle.iio_history.specs.BenchLaw.{heard}
 use Rattle.iio_system.specs.declared.connection.Connection.{Connection}
 use Rattle.iio_system.specs.Connection.{HasHeard, IsHearing}
 
--- no two connections have one name
+-- no two connections have the same name
 abbrev pub AreApart : {S : Type 0} → List (Connection S) → Type 0
 AreApart {S} connections =
     (i k : ℕ) (d : Connection S) → k < i → i < length connections
@@ -38,16 +38,16 @@ module _ {S : Type 0} (seen : S → SeatRecord) where
   abbrev pub IsOwning : Front → Option (SessionRecord S) → Type 0
   IsOwning front session = IfSome session (λ x. IsClient seen front x.client)
 
-  -- and what all of them hold
+  -- what the sessions of all connections hold is owned
   abbrev pub AreOwning : Front → List (Connection S) → Type 0
   AreOwning front connections = All (λ c. IsOwning front c.session) connections
 
-  -- the devices once it is lost, where it has a session
+  -- the devices after a connection is lost, if it has a session
   abbrev pub left_by : Front → Machine → Option (SessionRecord S) → Machine
   left_by front m None = m
   left_by front m (Some x) = left_machine front m (client_of seen x.client)
 
-  -- a connection that hasn't ended was fed: it is left without a session where it has ended then
+  -- a connection that hadn't ended was fed: it has no session any more if it ended with this feed
   pub record HasFed (s : Setup) (n : Told) (told : Option Machine) (name : List ℕ) (begun : Scanner) (bytes : List ℕ) (before after : List ℕ)
       (session : Option (SessionRecord S)) : Type 0 where
     pub spoken : SessionRecord S
@@ -55,7 +55,7 @@ module _ {S : Type 0} (seen : S → SeatRecord) where
     pub left : session ≡ (if is_at_end (scanner_after begun bytes) then None else Some spoken)
     pub lines : after ≡ before ++ feed_lines s n name begun bytes
 
-  -- one that has ended is told so again
+  -- a feed; if the connection has already ended, only the line that says so is printed again
   abbrev pub Feeds : (name bytes : List ℕ) → Front → (told told' : Option Machine) → (before after : List ℕ) → (old new : Option (SessionRecord S)) → Type 0
   Feeds name bytes front told told' before after None new = (new ≡ None) × (told' ≡ told) × (after ≡ before ++ closed_line name)
   Feeds name bytes front told told' before after (Some x) new =

@@ -38,6 +38,6 @@ mean_head_over heads x = record { name = x.name; kind = Average x.base x.window;
 abbrev pub mean_station_over : List DeviceHead → AverageRecord → Station
 mean_station_over heads x = new_mean_station (means_over heads x.base)
 
--- a trigger with its places, none of which is taken
+-- a trigger with its places, none of them taken
 abbrev pub first_state : TriggerDesc → State
 first_state t = record { places = t.places; attached = []; outstanding = []; missed = 0 }

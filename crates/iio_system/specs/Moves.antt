@@ -1,4 +1,4 @@
--- The handlings that a poll is followed by, one after another. Cited by this crate's private functions alone.
+-- The handlings that follow a poll, one after another. Only this crate's private functions cite this file.
 use Rattle.std.specs.Prelude.{◌≡◌, ℕ, suc, ◌<◌, ◌≤◌, ◌-◌, ◌^◌, All, List, [], ◌∷◌, ◌++◌, map, None, Some}
 use Rattle.iio_sensor.specs.Driver.{Driver}
 use Rattle.iio_trigger.specs.Trigger.{Handed}
@@ -13,11 +13,11 @@ use Rattle.iio_system.specs.declared.connection.Connection.{Connection}
 use Rattle.iio_kinds.specs.declared.seat.Seat.{Seat}
 use Rattle.iio_system.specs.Standing.{Holds}
 
--- no capture is a device's last
+-- no device has made its last capture
 abbrev pub CanGoOn : List ℕ → Type 0
 CanGoOn captures = All (λ n. n < 2 ^ 64 - 1) captures
 
--- the handling of the entry that a device has, where it has one
+-- the handling of the entry that a device has, if it has one
 abbrev pub handling_of : (trigger dev : ℕ) → List Handed → List Event
 handling_of trigger dev entries = elim (entry_of dev entries) [ None ↦ [] | Some e ↦ Handled trigger dev ∷ [] ]
 
@@ -25,13 +25,13 @@ handling_of trigger dev entries = elim (entry_of dev entries) [ None ↦ [] | So
 abbrev pub handlings : (trigger : ℕ) → List Handed → List Event
 handlings trigger entries = map (λ (e : Handed). Handled trigger e.dev) entries
 
--- entries of devices from `low` on and below `high`, in the order of devices, one of each device at most
+-- the entries are of devices from `low` on and below `high`, in the order of devices, and of each device there is at most one
 abbrev pub InOrder : (low high : ℕ) → List Handed → Type 0
 InOrder low high [] = low ≤ high
 InOrder low high (e ∷ es) = (low ≤ e.dev) × InOrder (suc e.dev) high es
 
 module _ {X : Type 0} {V : X → Type 0} (driver : Plug X V → Driver) where
-  -- events of a bench, by the entries that its trigger has: their lines, and what it and the connections hold then
+  -- the events that the entries of a trigger give: their lines, and what the bench and the connections hold afterwards
   abbrev pub Plays : (events : List Handed → List Event) → Setup → Told → (trigger : ℕ) → (b' : Bench X V) (cs : List (Connection Seat)) (before after : List ℕ)
       → Type 0
   Plays events s m trigger b' cs before after =
@@ -42,7 +42,7 @@ module _ {X : Type 0} {V : X → Type 0} (driver : Plug X V → Driver) where
   HandlesOne trigger dev b b' cs before after =
       (s : Setup) (m : Told) → Holds driver s m b cs → Plays (handling_of trigger dev) s m trigger b' cs before after
 
-  -- the handling of all entries at a trigger, which are of devices below `high` and in their order
+  -- the handling of all entries at a trigger, which are for devices below `high` and in their order
   abbrev pub HandlesAll : (trigger high : ℕ) → (b b' : Bench X V) (cs : List (Connection Seat)) (before after : List ℕ) → Type 0
   HandlesAll trigger high b b' cs before after =
       (s : Setup) (m : Told) → Holds driver s m b cs → InOrder 0 high (entries_at m.triggers trigger) → Plays (handlings trigger) s m trigger b' cs before after

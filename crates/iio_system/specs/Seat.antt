@@ -1,4 +1,4 @@
--- A seat at a bench, as an `Iio` says what it is: it tells nothing.
+-- A seat at a bench as an `Iio` tells it: it has no trace.
 use Rattle.std.specs.Prelude.{None}
 use Rattle.iiod_session.specs.Seat.{SeatRecord}
 use Rattle.iio_kinds.specs.declared.seat.Seat.{Seat}

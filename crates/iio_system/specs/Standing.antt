@@ -32,21 +32,21 @@ name_by c = c.name
 abbrev pub names_by : {X : Type 0} {V : X → Type 0} → System X V → List (List ℕ)
 names_by x = map name_by x.connections.items
 
--- whether a connection of that name can be fed: it was fed before, or there is room for one more name
+-- whether a connection of that name can be fed: it was fed before, or there is room for another name
 abbrev pub has_room : List (List ℕ) → List ℕ → Bool
 has_room names name = is_known names name || nat_lt (length names) max_names
 
--- the names once a step was made, the newest last
+-- the names after a step, the newest last
 abbrev pub names_with : List (List ℕ) → Step → List (List ℕ)
 names_with names (Feed name bytes) = if is_known names name then names else names ++ name ∷ []
 names_with names step = names
 
--- a feed is of a connection that can be fed
+-- a feed is for a connection that can be fed
 abbrev pub IsTaken : List (List ℕ) → CodeStep → Type 0
 IsTaken names (code.Feed name bytes) = has_room names name ≡ true
 IsTaken names step = Unit {0}
 
--- a connection that sent nothing yet
+-- a connection that has sent nothing yet
 pub record IsNew (name : List ℕ) (who : ℕ) (c : Connection Seat) : Type 0 where
   pub name_is : c.name ≡ name
   pub fresh : SessionRecord Seat
@@ -55,11 +55,11 @@ pub record IsNew (name : List ℕ) (who : ℕ) (c : Connection Seat) : Type 0 wh
 
 -- ---- captures
 
--- their numbers can go on
+-- the numbers of captures can still rise
 abbrev pub CanCapture : List ℕ → Type 0
 CanCapture captures = All (λ n. n < 2 ^ 63) captures
 
--- the most captures that a device made rose by at most `k`
+-- the largest number of captures of a device has risen by at most `k`
 abbrev pub RiseBy : ℕ → (old new : List ℕ) → Type 0
 RiseBy k old new = (n : ℕ) → All (λ c. c ≤ n) old → All (λ c. c ≤ n + k) new
 
@@ -70,24 +70,25 @@ module _ {X : Type 0} {V : X → Type 0} (driver : Plug X V → Driver) where
   abbrev pub Holds : Setup → Told → Bench X V → List (Connection Seat) → Type 0
   Holds s m b connections = Stands seen_of s m (front_of b) (Some (machine_of driver b)) connections
 
-  -- a step of a bench and its connections: its lines, and what they hold then
+  -- a step of a bench and its connections: its lines, and what they hold afterwards
   abbrev pub Makes : Step → (b b' : Bench X V) (cs cs' : List (Connection Seat)) (before after : List ℕ) → Type 0
   Makes t b b' cs cs' before after =
       (s : Setup) (m : Told) → Holds s m b cs → (after ≡ before ++ step_lines s m t) × Holds s (state_after s m t) b' cs'
 
-  -- a feed, where members can still be numbered
+  -- a feed, if members can still be numbered
   abbrev pub MakesFeed : (name bytes : List ℕ) → (b b' : Bench X V) (cs cs' : List (Connection Seat)) (before after : List ℕ) → Type 0
   MakesFeed name bytes b b' cs cs' before after =
       (s : Setup) (m : Told) → Every (CanJoinMore (suc (length bytes))) m.stations → Holds s m b cs
       → (after ≡ before ++ step_lines s m (Feed name bytes)) × Holds s (state_after s m (Feed name bytes)) b' cs'
 
-  -- a step, where as many members can still be numbered as it and its bytes are
+  -- a step, if as many members can still be numbered as its cost, which is 1 and the number of its bytes
   abbrev pub MakesStep : CodeStep → (b b' : Bench X V) (cs cs' : List (Connection Seat)) (before after : List ℕ) → Type 0
   MakesStep t b b' cs cs' before after =
       (s : Setup) (m : Told) → Every (CanJoinMore (cost_of t)) m.stations → Holds s m b cs
       → (after ≡ before ++ step_lines s m (step_view t)) × Holds s (state_after s m (step_view t)) b' cs'
 
-  -- whether a step keeps to the rules of bystanders beside the watched connection; and a feed, or any step of the code
+  -- whether a step keeps to the rules of bystanders as to the watched connection; and the same of a feed, and of any step of
+  -- the code
   abbrev pub Meets : (watched : List ℕ) → Step → Bench X V → List (Connection Seat) → Bool → Type 0
   Meets watched t b cs meets = (s : Setup) (m : Told) → Holds s m b cs → meets ≡ step_meets s watched m t
 
@@ -99,8 +100,8 @@ module _ {X : Type 0} {V : X → Type 0} (driver : Plug X V → Driver) where
   MeetsStep watched t b cs meets =
       (s : Setup) (m : Told) → Every (CanJoinMore (cost_of t)) m.stations → Holds s m b cs → meets ≡ step_meets s watched m (step_view t)
 
-  -- a system stands for these events: it holds what they tell, and members can still be numbered. (A step has at most 32
-  -- events for itself and for each of its bytes.)
+  -- a system stands for these events: it holds the state that they give, and members can still be numbered. (A step has at most
+  -- 32 events for itself and for each of its bytes.)
   pub record StandsFor (s : Setup) (h : List Event) (x : System X V) : Type 0 where
     pub holds : Holds s (told s h) x.bench x.connections.items
     pub room : Every (CanJoinMore (2 ^ 64 - 1 - 32 * x.used)) (told s h).stations

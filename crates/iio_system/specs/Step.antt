@@ -1,4 +1,4 @@
--- A step of the code as the step that it is.
+-- Steps of the code as steps of the definitions.
 use Rattle.std.specs.Prelude.{ℕ, ◌+◌, ◌<◌, length}
 use Rattle.iio_history.specs.Transcript.{Step, Feed, Fire, Poll, Handle, Sense, SetClock, Drop, Unplug}
 use Rattle.iio_system.specs.declared.step.Step.{Step as CodeStep}
@@ -14,7 +14,7 @@ step_view (code.Clock moment) = SetClock moment
 step_view (code.Drop name) = Drop name
 step_view (code.Unplug device) = Unplug device
 
--- its numbers are below these
+-- the numbers in a step are below these
 abbrev pub IsValid : (triggers devices : ℕ) → CodeStep → Type 0
 IsValid triggers devices (code.Fire trigger moment) = trigger < triggers
 IsValid triggers devices (code.Poll trigger moment) = trigger < triggers
@@ -23,7 +23,7 @@ IsValid triggers devices (code.Sense device moment) = device < devices
 IsValid triggers devices (code.Unplug device) = device < devices
 IsValid triggers devices step = Unit {0}
 
--- a step and the bytes that it feeds
+-- the cost of a step: 1, and the number of bytes that it feeds
 abbrev pub cost_of : CodeStep → ℕ
 cost_of (code.Feed name bytes) = 1 + length bytes
 cost_of step = 1

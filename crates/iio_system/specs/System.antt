@@ -1,4 +1,4 @@
--- The core over the told state: its devices by numbers, its connections line by line.
+-- The core by the told state: its devices by numbers, its connections line by line.
 use Rattle.std.specs.Prelude.{◌≡◌, ◌≢◌, true, false, List, [], ◌∷◌, Option, Some, None}
 use Rattle.iiod_grammar.specs.Stream.{AtEnd}
 use Rattle.iiod_session.specs.Client.{ClientRecord, IsClient}
@@ -23,14 +23,14 @@ module _ {S : Type 0} (seen : S → SeatRecord) where
     pub session : IsSessionOf seen m l.user.who l.begun x
     pub client : IsClient seen front x.client
 
-  -- one that has ended has nothing at the devices any more
+  -- a connection that has ended has nothing at the devices any more
   pub record IsGone (m : Told) (l : Line) : Type 0 where
     pub ended : l.user.ended ≡ true
     pub client : ClientRecord
     pub bare : IsBare client
     pub has : IsClientOf m l.user.who client
 
-  -- and no session
+  -- and it has no session
   abbrev pub IsServed : Front → Told → Line → Option (SessionRecord S) → Type 0
   IsServed front m l None = IsGone m l
   IsServed front m l (Some x) = IsLive front m l x

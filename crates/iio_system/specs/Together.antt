@@ -1,4 +1,4 @@
--- What happens to several devices of a bench at once. Cited by this crate's private functions alone.
+-- What happens to several devices of a bench at once. Only this crate's private functions cite this file.
 use Rattle.std.specs.Prelude.{◌≡◌, ℕ, ◌<◌, ◌==◌, ◌&&◌, not, Bool, true, false, All, List, [], length, map, slice_get, Option, Some, if◌then◌else◌}
 use Rattle.std.specs.Option.{option_map_or}
 use Rattle.iio_layout.specs.Layout.{scan_size}
@@ -18,7 +18,7 @@ use Rattle.iio_system.specs.Averages.{HasBases}
 use Rattle.iio_kinds.specs.Handling.{IsScanOf, is_last}
 use Rattle.iio_kinds.specs.Station.{KeepsFront, any_front, any_station, full_scan_by}
 
--- each device, by its number, is as this says
+-- each device has changed as `R` says, by its number
 pub record Together {D : Type 0} (R : ℕ → D → D → Type 0) (old new : List D) : Type 0 where
   pub same : length new ≡ length old
   pub each : (i : ℕ) (d d' : D) → slice_get old i ≡ Some d → slice_get new i ≡ Some d' → R i d d'
@@ -29,22 +29,22 @@ pub record Together {D : Type 0} (R : ℕ → D → D → Type 0) (old new : Lis
 abbrev pub gathers : (base : ℕ) → Kind → Station → Bool
 gathers base kind st = is_over kind base && not (is_empty st.members)
 
--- one with a capture more of that base
+-- a device of a kind after another capture of that base
 abbrev pub with_capture : (base : ℕ) → Capture → Kind → ShapeRecord → Station → Station
 with_capture base c (Average b window) shape st = if base == b then station_after_gathering window shape (Some c) st else st
 with_capture base c kind shape st = st
 
--- the scan of all channels that stands at a device
+-- the scan of all channels that is kept at a device
 abbrev pub scan_at : {X : Type 0} {V : X → Type 0} → (base : ℕ) → List (AnyDevice X V) → List ℕ
 scan_at base devices = option_map_or full_scan_by (slice_get devices base) []
 
--- where the handling of an entry made a capture
+-- `P` holds if the handling of an entry made a capture
 abbrev pub OnCapture : Option Became → Type 0 → Type 0
 OnCapture (Some (Asked (Captured members))) P = P
 OnCapture became P = Unit {0}
 
 module _ {X : Type 0} {V : X → Type 0} (driver : Plug X V → Driver) where
-  -- a scan is one that it can take, where it has to
+  -- the device can take the scan
   pub record CanTake (scan : List ℕ) (d : AnyDevice X V) : Type 0 where
     pub size : length scan ≡ scan_size (any_front d).shape (full_mask (any_front d).shape)
     pub fewer : is_last (any_station driver d).captures ≡ false
@@ -52,17 +52,17 @@ module _ {X : Type 0} {V : X → Type 0} (driver : Plug X V → Driver) where
   abbrev pub IsReady : (base : ℕ) → (scan : List ℕ) → AnyDevice X V → Type 0
   IsReady base scan d = gathers base (any_front d).kind (any_station driver d) ≡ true → CanTake scan d
 
-  -- it took it
+  -- the device took the scan, if it had to
   pub record IsGathered (base : ℕ) (scan : List ℕ) (old new : AnyDevice X V) : Type 0 where
     pub keeps : KeepsFront old new
     pub station : (c : Capture) → (gathers base (any_front old).kind (any_station driver old) ≡ true → IsScanOf (any_front old).shape c scan)
         → any_station driver new ≡ with_capture base c (any_front old).kind (any_front old).shape (any_station driver old)
 
-  -- and so did all
+  -- each device did
   abbrev pub AreGathered : (base : ℕ) → (scan : List ℕ) → (old new : List (AnyDevice X V)) → Type 0
   AreGathered base scan old new = Together (λ i d d'. IsGathered base scan d d') old new
 
-  -- all over a base can take the scan that stands there
+  -- all devices over a base can take the scan that is kept there
   pub record CanGather (first base : ℕ) (devices : List (AnyDevice X V)) : Type 0 where
     pub before : base < first
     pub bases : HasBases first (map any_front devices)

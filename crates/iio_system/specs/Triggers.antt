@@ -1,5 +1,6 @@
--- The triggers beside the devices. (Kernel, driver-api/iio: a device is attached to its trigger while its buffer is enabled,
--- and a poll calls each attached device once. Places and the count of missed polls are this project's own.)
+-- The triggers and the devices that are attached to them. (Kernel, driver-api/iio: a device is attached to its trigger while
+-- its buffer is enabled, and a poll calls each attached device once. Places and the count of missed polls are this project's
+-- own.)
 use Rattle.std.specs.Prelude.{◌≡◌, ℕ, suc, ◌≤◌, false, List, [], ◌∷◌, map, length, slice_get, Some, if◌then◌else◌}
 use Rattle.iio_trigger.specs.declared.rows.Place.{Place}
 use Rattle.iio_trigger.specs.Trigger.{State}
@@ -24,7 +25,7 @@ pub record IsTrigger (trigger : ℕ) (stations : List Station) (s : State) : Typ
   pub attached : s.attached ≡ places_from 0 trigger stations
   pub idle : has_in_hand s.outstanding ≡ false
 
--- there is a trigger for each that is described, with its places
+-- there is a trigger for each one that is described, with its places
 pub record IsBench (triggers : List TriggerDesc) (states : List State) (stations : List Station) : Type 0 where
   pub few : length triggers ≤ MAX_TRIGGERS
   pub devices : length stations ≤ MAX_DEVICES

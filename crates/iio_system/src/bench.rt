@@ -14,8 +14,9 @@ use iio_trigger::Trigger;
 use std::alloc::Global;
 use std::marker::PhantomData;
 
-/// The devices and triggers of a description, with one clock. A device's number is its place among the description's
-/// devices, the output devices after the input devices, and the averaging devices after these; a trigger's is its place among the description's triggers.
+/// The devices and triggers of a description, with one clock. A device's number is its place among the description's devices:
+/// first come the input devices, then the output devices, then the averaging devices. A trigger's number is its place among the
+/// description's triggers.
 #[derive(Drop)]
 pub struct Bench {
     pub(crate) alloc: Global,
@@ -37,7 +38,7 @@ pub struct Bench {
 impl Bench {
     ghost use Rattle.std.specs.Prelude.{◌≡◌};
 
-    /// The moment that its clock shows.
+    /// The moment that the bench's clock shows.
     pub fn clock(&self) -> i64
         ensures { result ≡ self.now.clock }
     {

@@ -24,7 +24,8 @@ pub struct Connection<S> {
     pub session: Option<Session<S>>,
 }
 
-// The items that these bytes make whole, and whether the connection has ended with them.
+// Feeds these bytes to a session, which answers the items that they make whole; returns whether the connection has ended with
+// them.
 fn hear<I: Iio, W: Watch<I>>(
     alloc: Global,
     iio: &mut I,
@@ -47,7 +48,7 @@ fn hear<I: Iio, W: Watch<I>>(
     Ok(session.ended())
 }
 
-// A connection has ended. Appends the line of it.
+// Ends a connection, and appends the line that says so.
 #[cold]
 #[inline(never)]
 fn end<S: Drop>(connection: &mut Connection<S>, out: &mut Vec<u8>) -> Result<(), Mem>
@@ -59,7 +60,7 @@ fn end<S: Drop>(connection: &mut Connection<S>, out: &mut Vec<u8>) -> Result<(),
     push_closed(out, &connection.name)
 }
 
-// The lines of a feed, and what is left of the connection.
+// Feeds a connection, which has no session any more if it ends, and appends the lines of the feed.
 pub(crate) fn feed_at<I: Iio, W: Watch<I>>(
     alloc: Global,
     iio: &mut I,

@@ -33,7 +33,7 @@ pub(crate) fn place(connections: &[Connection<Seat>], name: &Name) -> Option<usi
     connections.iter().position(|c| c.name.is(name.bytes()))
 }
 
-// Whether the connection of that name stands there.
+// Whether the connection at that place has that name.
 fn stands_at(connections: &[Connection<Seat>], at: usize, name: &Name) -> bool
     ensures within { result ≡ true → at < length connections.now }
     ensures named { result ≡ true → (d : Connection Seat) → bytes_eq (slice_index_or connections.now at d).name name.now ≡ true }
@@ -41,8 +41,8 @@ fn stands_at(connections: &[Connection<Seat>], at: usize, name: &Name) -> bool
     at < connections.len() && connections[at].name.is(name.bytes())
 }
 
-// The place of the connection of that name, where the last one that was fed stands at `last`: it or the next one is fed
-// most often, so they are looked at first.
+// The place of the connection of that name; `last` is the place of the one that was fed last. That one or the next is fed most
+// often, so they are looked at first.
 fn place_near(connections: &[Connection<Seat>], last: usize, name: &Name) -> Option<usize>
     requires { AreApart connections.now }
     ensures { result ≡ position (λ c. bytes_eq c.name name.now) connections.now }
@@ -57,7 +57,7 @@ fn place_near(connections: &[Connection<Seat>], last: usize, name: &Name) -> Opt
     place(connections, name)
 }
 
-// A connection that sent nothing yet. By its number the devices know whose their events are.
+// A connection that has sent nothing yet. Devices identify the holder of their events by its number.
 fn connect(alloc: Global, who: usize, name: &Name) -> Result<Connection<Seat>, Mem>
     requires { who ≤ max_names }
     ensures { IfOk result (IsNew name.now who) }
@@ -69,7 +69,8 @@ fn connect(alloc: Global, who: usize, name: &Name) -> Result<Connection<Seat>, M
     })
 }
 
-// Feeds a connection that comes with this feed. It stands apart since its connection is large, and most feeds are others.
+// Feeds a connection for the first time, and adds it. This is a function of its own since a connection is large, and most feeds
+// aren't first ones.
 #[cold]
 #[inline(never)]
 fn feed_first(
@@ -109,8 +110,8 @@ fn feed_first(
     fed
 }
 
-/// Feeds the connection of that name, which comes with its first feed, and appends the lines of the feed. `answers` is
-/// room for the answers; `last` is where the last one that was fed stands.
+/// Feeds the connection of that name, which is added at its first feed, and appends the lines of the feed. `answers` is room
+/// for the answers; `last` is the place of the connection that was fed last.
 pub(crate) fn feed(
     alloc: Global,
     bench: &mut Bench,
@@ -148,8 +149,8 @@ pub(crate) fn feed(
     )
 }
 
-// Feeds a connection, and answers whether what it says keeps to the rules of bystanders beside the watched connection, where
-// these are the others, before it and after it.
+// Feeds a connection, and returns whether what it says keeps to the rules of bystanders as to the watched connection; `before`
+// and `after` are the other connections.
 fn feed_beside(
     alloc: Global,
     bench: &mut Bench,
@@ -176,7 +177,7 @@ fn feed_beside(
     Ok(watch.meets)
 }
 
-// The same with a connection that comes with this feed.
+// Does what `feed_guarded` does with a connection that is fed for the first time, and adds it.
 #[cold]
 #[inline(never)]
 fn guard_first(
@@ -221,7 +222,7 @@ fn guard_first(
     fed
 }
 
-/// Does what [`feed`] does, and answers whether what the connection says keeps to the rules of bystanders beside the watched
+/// Does what [`feed`] does, and returns whether what the connection says keeps to the rules of bystanders as to the watched
 /// one.
 pub(crate) fn feed_guarded(
     alloc: Global,
@@ -278,7 +279,7 @@ fn leave(bench: &mut Bench, session: Session<Seat>)
     session.end(bench);
 }
 
-// The connection is lost, and has no session any more. Answers whether it had one.
+// Loses a connection, which then has no session any more. Returns whether it had one.
 fn lose(bench: &mut Bench, connection: &mut Connection<Seat>) -> bool
     requires { IsOwning seen_of (front_of bench.old) connection.old.session }
     ensures kept { kept_of bench.new ≡ kept_of bench.old }
@@ -297,7 +298,7 @@ fn lose(bench: &mut Bench, connection: &mut Connection<Seat>) -> bool
     }
 }
 
-/// The connection of that name is lost: its seats are closed and its holdings of events end. Appends the line of it.
+/// Loses the connection of that name: its seats are closed and its holdings of events end. Appends the line that says so.
 pub(crate) fn drop_named(
     bench: &mut Bench,
     connections: &mut Vec<Connection<Seat>>,
@@ -321,8 +322,8 @@ pub(crate) fn drop_named(
     }
 }
 
-/// Does what [`drop_named`] does, and answers whether the loss keeps to the rules of bystanders beside the watched connection:
-/// its own does where none of the others has a device open.
+/// Does what [`drop_named`] does, and returns whether the loss keeps to the rules of bystanders as to the watched connection:
+/// that of the watched connection itself does if none of the others has a device open.
 pub(crate) fn drop_guarded(
     bench: &mut Bench,
     connections: &mut Vec<Connection<Seat>>,

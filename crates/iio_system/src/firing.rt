@@ -1,4 +1,4 @@
-//! What happens at a bench beside its connections' calls: polls, the clock, looks at thresholds, unplugged devices.
+//! What happens at a bench besides the calls of connections: polls, the clock, looks at thresholds, unpluggings.
 
 ghost use Rattle.std.specs.Prelude.{◌≡◌, ◌<◌, ◌&&◌, not, ⊤, length};
 ghost use Rattle.iio_desc.specs.Kind.{is_average};
@@ -28,7 +28,8 @@ impl Bench {
         self.clock = t;
     }
 
-    /// Polls a trigger at a moment: an entry for each attached device, where none is outstanding; else the poll is missed.
+    /// Polls a trigger at the moment `t`: makes an entry for each attached device if none is outstanding; otherwise the poll is
+    /// missed.
     pub fn poll(&mut self, trigger: u32, t: i64) -> Polled
         requires { trigger < length (front_of self.old).triggers }
         ensures front { front_of self.new ≡ front_of self.old }
@@ -39,7 +40,7 @@ impl Bench {
         self.triggers[trigger as usize].poll(t)
     }
 
-    /// The device of the first entry at a trigger, in the order of devices. `None` comes exactly where no entry is there.
+    /// Returns the device of the first entry at a trigger, in the order of devices; `None` exactly if there is no entry.
     pub(crate) fn first_due(&self, trigger: u32) -> Option<u32>
         requires { trigger < length (front_of self.now).triggers }
         ensures { result ≡ first_due (entries_at (triggers_of self.now) trigger) }
@@ -47,9 +48,9 @@ impl Bench {
         self.triggers[trigger as usize].first()
     }
 
-    /// Handles the entry that a device has at a trigger: where the entry is current an input device is asked, an output device
-    /// is given the next scan, and the entry is taken off. Each averaging device takes a capture of its base. `None` comes
-    /// exactly where it has none, and then nothing changes. A device that has made 2^64 - 1 captures is asked nothing.
+    /// Handles the entry that a device has at a trigger, and removes it: if the entry is current, an input device is asked, or
+    /// an output device is given the next scan. Each averaging device takes a capture of its base. Returns `None`, and changes
+    /// nothing, exactly if there is no entry. A device that has made 2^64 - 1 captures isn't asked.
     #[inline(always)]
     pub fn handle(&mut self, trigger: u32, dev: u32) -> Option<Became>
         requires trigger { trigger < length (front_of self.old).triggers }
@@ -69,7 +70,7 @@ impl Bench {
         became
     }
 
-    /// Looks at a device's thresholds at a moment.
+    /// Looks at a device's thresholds at the moment `t`.
     pub fn sense(&mut self, dev: u32, t: i64) -> Sensed
         requires { dev < length (front_of self.old).devices }
         ensures front { front_of self.new ≡ front_of self.old }
@@ -82,8 +83,8 @@ impl Bench {
         self.devices[dev as usize].sense(t)
     }
 
-    /// Unplugs a device, and the averaging devices over it. It says whether the device was plugged; an averaging device isn't
-    /// unplugged by itself.
+    /// Unplugs a device, and the averaging devices over it. Returns whether the device was plugged. An averaging device isn't
+    /// unplugged by itself: for one, nothing changes, and `false` is returned.
     pub fn unplug(&mut self, dev: u32) -> bool
         requires { dev < length (front_of self.old).devices }
         ensures front { front_of self.new ≡ front_of self.old }

@@ -25,7 +25,7 @@ use iio_trigger::Trigger;
 use std::alloc::Global;
 use std::marker::PhantomData;
 
-// Each of these as an input device of a bench.
+// Makes each of these devices an input device of a bench.
 fn as_inputs(alloc: Global, devices: Vec<Device<Kfifo>>) -> Result<Vec<AnyDevice>, Mem>
     ensures stations { IfOk result (λ v. stations_by ⟦<Plug as Sensor>⟧.driver v.items ≡ map (λ d. station_by ⟦<Plug as Sensor>⟧.driver d) devices.items) }
     ensures fronts { IfOk result (λ v. map any_front v.items ≡ map (λ d. head_by d.core) devices.items) }
@@ -59,7 +59,7 @@ fn inputs_of(
     Ok(devices)
 }
 
-// Adds the output devices of a description, with the numbers after those before.
+// Adds the output devices of a description; their numbers follow those of the devices that are there.
 fn add_outputs(alloc: Global, devices: &mut Vec<AnyDevice>, descs: Vec<OutDesc>) -> Result<(), Mem>
     requires few { length devices.old.items + length descs.items ≤ MAX_DEVICES }
     requires unlisted { All (λ d. d.shape.listed ≡ []) descs.items }
@@ -79,7 +79,7 @@ fn add_outputs(alloc: Global, devices: &mut Vec<AnyDevice>, descs: Vec<OutDesc>)
     Ok(())
 }
 
-// The channels and the timestamp of a device, without listed masks.
+// The shape of an averaging device over a device of that shape: its channels and its timestamp, without listed masks.
 fn shape_of_means(alloc: Global, shape: &Shape) -> Result<Shape, Mem>
     ensures { IfOk result (λ s. s ≡ shape_of_means (Some shape.now)) }
 {
@@ -93,7 +93,7 @@ fn shape_of_means(alloc: Global, shape: &Shape) -> Result<Shape, Mem>
     }
 }
 
-// Adds the averaging devices of a description, with the numbers after those before.
+// Adds the averaging devices of a description; their numbers follow those of the devices that are there.
 fn add_averages(
     alloc: Global,
     devices: &mut Vec<AnyDevice>,
@@ -139,9 +139,9 @@ fn triggers_of(alloc: Global, described: &[TriggerDesc]) -> Result<Vec<Trigger>,
 }
 
 impl Bench {
-    /// The bench of a description before the first step: no device has a member, each has the attributes that its
-    /// description writes, no place at a trigger is taken, and the clock shows 0. A device of a driver's number samples the
-    /// driver of that number, any other its recorded rows. Drivers that no device names are dropped.
+    /// The bench of a description before the first step: no device has a member, each has the attributes that its description
+    /// writes, no place at a trigger is taken, and the clock shows 0. A device with a driver's number samples that driver, any
+    /// other its recorded rows. Drivers that no device names are dropped.
     pub fn new(
         alloc: Global,
         desc: Desc,

@@ -21,14 +21,14 @@ use iio_kinds::Seat;
 use iiod_grammar::{Command, MAX_PAYLOAD};
 use iiod_session::{Iio, Seen, Session, Watch};
 
-/// The watch of a feed beside a watched connection: whether each item that it was told keeps to the rules of bystanders.
+/// The watch of a feed: whether each item that it was told keeps to the rules of bystanders as to a watched connection.
 #[derive(Drop)]
 pub(crate) struct Guard<'a> {
     pub(crate) meets: bool,
     // Whether the watched connection is the one that is fed.
     mine: bool,
     watched: &'a [u8],
-    // The session of the watched connection, where it isn't fed.
+    // The session of the watched connection, if that isn't the one that is fed.
     own: Option<&'a Session<Seat>>,
     others: Others<'a>,
 }
@@ -51,7 +51,7 @@ fn is_input(bench: &Bench, dev: u32) -> bool
     !bench.is_output(dev) && !bench.is_average(dev)
 }
 
-// Whether it has the input device of that name open.
+// Whether a connection has the input device of that name open.
 fn own_has(bench: &Bench, own: Option<&Session<Seat>>, device: &[u8]) -> bool
     ensures { result ≡ by_number (find_device (front_of bench.now) device.now) (own_input (front_of bench.now) (client_by seen_of own.entry)) }
 {
@@ -61,7 +61,7 @@ fn own_has(bench: &Bench, own: Option<&Session<Seat>>, device: &[u8]) -> bool
     }
 }
 
-// Whether one of these has the device of that name open.
+// Whether one of the others has the device of that name open.
 fn one_has(bench: &Bench, others: &Others<'_>, watched: &[u8], device: &[u8]) -> bool
     ensures { result ≡ by_number (find_device (front_of bench.now) device.now) (one_seated (clients_besides seen_of watched.now (connections_of others.now))) }
 {
@@ -71,7 +71,7 @@ fn one_has(bench: &Bench, others: &Others<'_>, watched: &[u8], device: &[u8]) ->
     }
 }
 
-/// Whether the watched connection may do this: it may end where none of the others has a device open.
+/// Whether the watched connection may do this: it may end if none of the others has a device open.
 pub(crate) fn may_end(others: &Others<'_>, watched: &[u8], ends: bool) -> bool
     ensures { result ≡ (not ends || none_seated (clients_besides seen_of watched.now (connections_of others.now))) }
 {
@@ -158,8 +158,8 @@ fn may_part(bench: &Bench, others: &Others<'_>, watched: &[u8], item: &Seen<'_>)
 }
 
 impl<'a> Guard<'a> {
-    /// A guard that was told nothing yet, of a feed of the connection of that name. Where that isn't the watched one, it is
-    /// among the others, if it is there.
+    /// A guard that was told nothing yet, for a feed of the connection of that name. If that isn't the watched one, the watched
+    /// one is among the others, if it is there.
     pub(crate) fn new(watched: &'a [u8], name: &Name, others: Others<'a>) -> Guard<'a>
         ensures meets { result.meets ≡ true }
         ensures mine { result.mine ≡ bytes_eq name.now watched.now }

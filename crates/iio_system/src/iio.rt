@@ -1,4 +1,4 @@
-//! A bench as a connection uses it.
+//! The bench as connections use it.
 
 ghost use Rattle.std.specs.Prelude.{◌≡◌, ◌<◌, IfSome, length};
 ghost use Rattle.std.specs.List.{position};

@@ -16,13 +16,13 @@ use iio_trigger::Polled;
 use itoa::Buffer;
 use std::simd::prelude::*;
 
-// The room in which a line is put together: two names of 32 bytes and the words beside them.
+// The size of the room in which a line is put together: two names of 32 bytes and the words besides them.
 const ROOM: usize = 96;
 
-// The room in which the head of a feed's line is put together: a name and a word.
+// The size of the room in which the head of a feed's line is put together: a name and a word.
 const HEAD_ROOM: usize = 48;
 
-// Puts a text at a place over what stands there, and answers where it ends.
+// Puts a text at a place, over what is there, and returns where it ends.
 #[inline(always)]
 fn put(out: &mut Vec<u8>, at: usize, text: &[u8]) -> usize
     requires { at + length text.now ≤ length out.old.items }
@@ -34,7 +34,7 @@ fn put(out: &mut Vec<u8>, at: usize, text: &[u8]) -> usize
     at + text.len()
 }
 
-// Puts the first `len` bytes of a word, which is filled up with spaces, at a place, and answers where they end: all sixteen are
+// Puts the first `len` bytes of a word, which is filled up with spaces, at a place, and returns where they end. All sixteen are
 // copied, since a copy of a known length is cheap.
 #[inline(always)]
 fn put_word(out: &mut Vec<u8>, at: usize, word: &[u8; 16], len: usize) -> usize
@@ -48,7 +48,7 @@ fn put_word(out: &mut Vec<u8>, at: usize, word: &[u8; 16], len: usize) -> usize
     at + len
 }
 
-// Puts a name at a place, and answers where it ends: all bytes in place are copied.
+// Puts a name at a place, and returns where it ends. All 32 bytes of its padded form are copied.
 #[inline(always)]
 fn put_name(out: &mut Vec<u8>, at: usize, name: &Name) -> usize
     requires { at + 32 ≤ length out.old.items }
@@ -60,7 +60,7 @@ fn put_name(out: &mut Vec<u8>, at: usize, name: &Name) -> usize
     at + name.bytes().len()
 }
 
-// A count of more than one digit, and the end of its line.
+// Puts a count of more than one digit, and the end of its line.
 #[cold]
 #[inline(never)]
 fn put_long_count(out: &mut Vec<u8>, at: usize, n: u64) -> usize
@@ -74,7 +74,7 @@ fn put_long_count(out: &mut Vec<u8>, at: usize, n: u64) -> usize
     put(out, end, b"\n")
 }
 
-// A count, and the end of its line. Most have one digit.
+// Puts a count, and the end of its line. Most counts have one digit.
 #[inline(always)]
 fn put_count(out: &mut Vec<u8>, at: usize, n: u64) -> usize
     requires { at + 21 ≤ length out.old.items }
@@ -88,7 +88,7 @@ fn put_count(out: &mut Vec<u8>, at: usize, n: u64) -> usize
     put(out, at, &[b'0' + n as u8, b'\n'])
 }
 
-// A word that ends its line.
+// Appends a word that ends its line.
 fn push_last(out: &mut Vec<u8>, word: &[u8]) -> Result<(), Mem>
     ensures { OnOk result (out.new.items ≡ out.old.items ++ printed (word.now ∷ [])) }
 {
@@ -97,7 +97,7 @@ fn push_last(out: &mut Vec<u8>, word: &[u8]) -> Result<(), Mem>
     Ok(())
 }
 
-// The line of a poll, put at a place; answers where it ends.
+// Puts the line of a poll at a place, and returns where it ends.
 #[inline(always)]
 fn put_poll(out: &mut Vec<u8>, at: usize, trigger: &Name, polled: Polled) -> usize
     requires { at + ROOM ≤ length out.old.items }
@@ -117,7 +117,8 @@ fn put_poll(out: &mut Vec<u8>, at: usize, trigger: &Name, polled: Polled) -> usi
     }
 }
 
-/// `poll TRIGGER accepted N`, with how many entries it made; or `poll TRIGGER missed N`, with how many polls were missed.
+/// Appends `poll TRIGGER accepted N`, with the number of entries that it made, or `poll TRIGGER missed N`, with the number of
+/// polls that were missed.
 #[inline(always)]
 pub(crate) fn push_poll(out: &mut Vec<u8>, trigger: &Name, polled: Polled) -> Result<(), Mem>
     ensures { OnOk result (out.new.items ≡ out.old.items ++ printed (codes "poll" ∷ trigger.now ∷ polled_words polled)) }
@@ -129,7 +130,7 @@ pub(crate) fn push_poll(out: &mut Vec<u8>, trigger: &Name, polled: Polled) -> Re
     Ok(())
 }
 
-// The line of an entry that was handled, put at a place; answers where it ends.
+// Puts the line of an entry that was handled at a place, and returns where it ends.
 #[inline(always)]
 fn put_handle(
     out: &mut Vec<u8>,
@@ -153,7 +154,7 @@ fn put_handle(
     }
 }
 
-/// `handle TRIGGER DEVICE` and what became of the entry.
+/// Appends `handle TRIGGER DEVICE` and what became of the entry.
 #[inline(always)]
 pub(crate) fn push_handle(
     out: &mut Vec<u8>,
@@ -170,7 +171,7 @@ pub(crate) fn push_handle(
     Ok(())
 }
 
-// The scan that an output device was given, which ends its line.
+// Appends the scan that an output device was given, which ends its line.
 fn push_given(out: &mut Vec<u8>, scan: &[u8]) -> Result<(), Mem>
     ensures { OnOk result (out.new.items ≡ out.old.items ++ codes " given " ++ encode_lower scan.now ++ codes "\n") }
 {
@@ -180,7 +181,8 @@ fn push_given(out: &mut Vec<u8>, scan: &[u8]) -> Result<(), Mem>
     Ok(())
 }
 
-/// `handle TRIGGER DEVICE` and what became of an output device's entry: `given HEX`, with the scan; or `underrun`, `idle`.
+/// Appends `handle TRIGGER DEVICE` and what became of an output device's entry: `given HEX`, with the scan, or `underrun`, or
+/// `idle`.
 #[inline(never)]
 pub(crate) fn push_gave(
     out: &mut Vec<u8>,
@@ -202,7 +204,7 @@ pub(crate) fn push_gave(
     }
 }
 
-// A count that ends its line.
+// Appends a count that ends its line.
 fn push_count(out: &mut Vec<u8>, n: u64) -> Result<(), Mem>
     ensures { OnOk result (out.new.items ≡ out.old.items ++ decimal n ++ codes "\n") }
 {
@@ -210,7 +212,7 @@ fn push_count(out: &mut Vec<u8>, n: u64) -> Result<(), Mem>
     push_last(out, buffer.format(n).as_bytes())
 }
 
-/// `DEVICE sensed N`, with how many events fired; or `DEVICE fault`, `DEVICE gone`.
+/// Appends `DEVICE sensed N`, with the number of events that fired, or `DEVICE fault`, or `DEVICE gone`.
 pub(crate) fn push_sense(out: &mut Vec<u8>, device: &Name, sensed: Sensed) -> Result<(), Mem>
     ensures { OnOk result (out.new.items ≡ out.old.items ++ printed (device.now ∷ sensed_words sensed)) }
 {
@@ -226,7 +228,7 @@ pub(crate) fn push_sense(out: &mut Vec<u8>, device: &Name, sensed: Sensed) -> Re
     Ok(())
 }
 
-/// `clock T`
+/// Appends `clock T`.
 pub(crate) fn push_clock(out: &mut Vec<u8>, t: i64) -> Result<(), Mem>
     ensures { OnOk result (out.new.items ≡ out.old.items ++ printed (codes "clock" ∷ signed_decimal t ∷ [])) }
 {
@@ -235,7 +237,7 @@ pub(crate) fn push_clock(out: &mut Vec<u8>, t: i64) -> Result<(), Mem>
     push_last(out, buffer.format(t).as_bytes())
 }
 
-/// `NAME dropped`, or `NAME closed` where it wasn't there any more.
+/// Appends `NAME dropped`, or `NAME closed` if the connection wasn't there any more.
 pub(crate) fn push_drop(out: &mut Vec<u8>, name: &[u8], was_live: bool) -> Result<(), Mem>
     ensures { OnOk result (out.new.items ≡ out.old.items ++ printed (name.now ∷ dropped_word was_live ∷ [])) }
 {
@@ -251,7 +253,7 @@ pub(crate) fn push_drop(out: &mut Vec<u8>, name: &[u8], was_live: bool) -> Resul
     )
 }
 
-/// `DEVICE unplugged`, or `DEVICE gone` where it was unplugged before.
+/// Appends `DEVICE unplugged`, or `DEVICE gone` if the device was already unplugged.
 pub(crate) fn push_unplug(out: &mut Vec<u8>, device: &Name, was_plugged: bool) -> Result<(), Mem>
     ensures { OnOk result (out.new.items ≡ out.old.items ++ printed (device.now ∷ unplugged_word was_plugged ∷ [])) }
 {
@@ -267,7 +269,7 @@ pub(crate) fn push_unplug(out: &mut Vec<u8>, device: &Name, was_plugged: bool) -
     )
 }
 
-// A name and an opening quote, put at a place; answers where they end.
+// Puts a name and an opening quote at a place, and returns where they end.
 #[inline(always)]
 fn put_feed_head(out: &mut Vec<u8>, at: usize, name: &Name) -> usize
     requires { at + HEAD_ROOM ≤ length out.old.items }
@@ -277,7 +279,7 @@ fn put_feed_head(out: &mut Vec<u8>, at: usize, name: &Name) -> usize
     put_word(out, at, b" \"              ", 2)
 }
 
-// The line of a feed up to its opening quote.
+// Appends the line of a feed up to its opening quote.
 #[inline(always)]
 fn push_feed_head(out: &mut Vec<u8>, name: &Name) -> Result<(), Mem>
     ensures { OnOk result (out.new.items ≡ out.old.items ++ name.now ++ codes " \"") }
@@ -289,7 +291,7 @@ fn push_feed_head(out: &mut Vec<u8>, name: &Name) -> Result<(), Mem>
     Ok(())
 }
 
-/// `NAME "answers"`
+/// Appends `NAME "answers"`.
 pub(crate) fn push_feed(out: &mut Vec<u8>, name: &Name, answers: &[u8]) -> Result<(), Mem>
     ensures { OnOk result (out.new.items ≡ out.old.items ++ printed (name.now ∷ quoted answers.now ∷ [])) }
 {
@@ -300,7 +302,7 @@ pub(crate) fn push_feed(out: &mut Vec<u8>, name: &Name, answers: &[u8]) -> Resul
     Ok(())
 }
 
-/// `NAME closed`
+/// Appends `NAME closed`.
 pub(crate) fn push_closed(out: &mut Vec<u8>, name: &Name) -> Result<(), Mem>
     ensures { OnOk result (out.new.items ≡ out.old.items ++ closed_line name.now) }
 {

@@ -1,5 +1,5 @@
-//! The steps of a script that no connection makes: what they make of a bench, and the lines that they print.
-//! The large ones are never inlined, so that a step doesn't pay for the locals of another.
+//! The steps of a script that no connection makes: what they make of a bench, and the lines that they print. The large ones are
+//! never inlined, so that a step doesn't pay for the locals of another.
 
 ghost use Rattle.std.specs.Prelude.{◌≡◌, ◌++◌, ◌<◌, ◌≤◌, List, [], ◌∷◌, OnOk, codes, length};
 ghost use Rattle.iio_desc.specs.declared.limits.TheConstants.{MAX_DEVICES};
@@ -37,7 +37,7 @@ fn device_name(bench: &Bench, dev: u32) -> &Name
     bench.devices[dev as usize].name()
 }
 
-// How many devices there are.
+// The number of devices.
 fn device_count(bench: &Bench) -> u32
     ensures value { result ≡ length (front_of bench.now).devices }
     ensures most { result ≤ MAX_DEVICES }
@@ -94,7 +94,7 @@ pub(crate) fn poll(bench: &mut Bench, trigger: u32, t: i64, out: &mut Vec<u8>) -
     push_poll(out, trigger_name(bench, trigger), polled)
 }
 
-// The line of an entry that was handled.
+// Appends the line of an entry that was handled.
 #[inline(always)]
 fn push_became(
     bench: &Bench,
@@ -145,7 +145,7 @@ pub(crate) fn handle(
     push_became(bench, trigger, dev, became, out)
 }
 
-// Handles the entry that a device has at a trigger, where it has one.
+// Handles the entry that a device has at a trigger, if it has one.
 fn handle_one(bench: &mut Bench, trigger: u32, dev: u32, out: &mut Vec<u8>) -> Result<(), Mem>
     requires trigger { trigger < length (front_of bench.old).triggers }
     requires dev { dev < length (front_of bench.old).devices }
@@ -176,7 +176,7 @@ fn handle_all(bench: &mut Bench, trigger: u32, out: &mut Vec<u8>) -> Result<(), 
         let Some(dev) = bench.first_due(trigger) else {
             return Ok(());
         };
-        // No entry is of a device that isn't there.
+        // There is no entry for a device that isn't there.
         if dev >= devices {
             return Ok(());
         }
@@ -185,8 +185,7 @@ fn handle_all(bench: &mut Bench, trigger: u32, out: &mut Vec<u8>) -> Result<(), 
     Ok(())
 }
 
-/// `fire TRIGGER T`: polls a trigger, and where the poll is accepted handles each entry that it made, in the order of
-/// devices.
+/// `fire TRIGGER T`: polls a trigger, and if the poll is accepted, handles each entry that it made, in the order of devices.
 #[inline(never)]
 pub(crate) fn fire(bench: &mut Bench, trigger: u32, t: i64, out: &mut Vec<u8>) -> Result<(), Mem>
     requires trigger { trigger < length (front_of bench.old).triggers }

@@ -1,4 +1,4 @@
-//! Members that come to the devices of a bench, and go.
+//! How members join the devices of a bench, and leave them.
 
 ghost use Rattle.std.specs.Prelude.{◌≡◌, ◌&&◌, ◌-◌, ◌^◌, ◌≤◌, ◌<◌, not, true, false, IfOk, Ok, Some, length, map};
 ghost use Rattle.iio_derive.specs.Window.{full_mask};
@@ -38,7 +38,7 @@ fn full_bits(count: u32) -> u64
     }
 }
 
-// The mask of all channels of that shape, of which a queue may have a scan.
+// The mask of all channels of that shape. A queue can hold a scan under it.
 fn full_mask(shape: &Shape) -> Mask
     ensures value { result.bits ≡ full_mask shape.now }
     ensures below { result.bits < 2 ^ count_of shape.now }
@@ -51,9 +51,9 @@ fn full_mask(shape: &Shape) -> Mask
     mask
 }
 
-// ---- at a device that is no averaging one
+// ---- at a device that isn't an averaging one
 
-// A member more, by the device's trigger.
+// Adds a member, by the device's trigger.
 fn open_plain(
     bench: &mut Bench,
     dev: u32,
@@ -84,7 +84,7 @@ fn open_plain(
     }
 }
 
-// The member of that number leaves.
+// Removes the member of that number.
 fn close_plain(bench: &mut Bench, dev: u32, number: u64)
     requires dev { dev < length (front_of bench.old).devices }
     requires own { is_average (kind_at (front_of bench.old) dev) ≡ false }
@@ -103,7 +103,7 @@ fn close_plain(bench: &mut Bench, dev: u32, number: u64)
 
 // ---- at an averaging device
 
-// A member more where there is one: its base has the inner one.
+// Adds a member to a device that already has one, so that its base has the inner member.
 fn open_further(bench: &mut Bench, dev: u32, mask: Mask, capacity: u32) -> Result<Seat, No>
     requires may_open { MayOpen (front_of bench.old) dev mask.bits capacity }
     requires average { is_average (kind_at (front_of bench.old) dev) ≡ true }
@@ -125,7 +125,8 @@ fn open_further(bench: &mut Bench, dev: u32, mask: Mask, capacity: u32) -> Resul
     bench.devices[at].join_mean(mask, capacity)
 }
 
-// The first member, beside the inner one at that base, which may join by that trigger. Where memory runs out nothing changes.
+// Adds the first member, and the inner member at that base, which may join by that trigger. If memory runs out, nothing
+// changes.
 fn join_first(
     bench: &mut Bench,
     dev: u32,
@@ -175,7 +176,7 @@ fn join_first(
     }
 }
 
-// The first member, where the base hosts the inner one.
+// Adds the first member if the base hosts the inner one.
 fn open_first(bench: &mut Bench, dev: u32, base: u32, mask: Mask, capacity: u32) -> Result<Seat, No>
     requires may_open { MayOpen (front_of bench.old) dev mask.bits capacity }
     requires over { base_of (kind_at (front_of bench.old) dev) ≡ Some base }
@@ -194,7 +195,7 @@ fn open_first(bench: &mut Bench, dev: u32, base: u32, mask: Mask, capacity: u32)
     }
 }
 
-// The member of that number leaves, and the last one takes the inner member at that base with it.
+// Removes the member of that number; with the last one the inner member at that base goes too.
 fn close_mean(bench: &mut Bench, dev: u32, base: u32, number: u64)
     requires dev { dev < length (front_of bench.old).devices }
     requires over { base_of (kind_at (front_of bench.old) dev) ≡ Some base }
@@ -217,9 +218,9 @@ fn close_mean(bench: &mut Bench, dev: u32, base: u32, number: u64)
     }
 }
 
-// ---- at any
+// ---- at any device
 
-/// A member more at a device.
+/// Adds a member to a device.
 pub(crate) fn open_any(
     bench: &mut Bench,
     dev: u32,
@@ -247,7 +248,7 @@ pub(crate) fn open_any(
     }
 }
 
-/// The member of that number leaves a device.
+/// Removes the member of that number from a device.
 pub(crate) fn close_any(bench: &mut Bench, dev: u32, number: u64)
     requires { dev < length (front_of bench.old).devices }
     ensures kept { kept_of bench.new ≡ kept_of bench.old }

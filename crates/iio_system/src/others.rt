@@ -1,4 +1,4 @@
-//! What the connections beside one have open.
+//! What the other connections have open.
 
 ghost use Rattle.std.specs.Prelude.{◌≡◌, ◌∷◌, [], option_copied};
 ghost use Rattle.iio_worlds.specs.Stance.{none_seated, one_seated};
@@ -9,7 +9,7 @@ use crate::connection::Connection;
 use iio_kinds::Seat;
 use iiod_session::Session;
 
-/// All connections but one: those before it, and those after it.
+/// All connections except one: those before it, and those after it.
 #[derive(Clone, Copy)]
 pub(crate) struct Others<'a> {
     pub(crate) before: &'a [Connection<Seat>],
@@ -41,7 +41,7 @@ fn other_holds(connection: &Connection<Seat>, watched: &[u8], dev: u32) -> bool
     }
 }
 
-// Whether one of these has.
+// Whether a connection of another name among these has the device of that number open.
 fn one_holds(connections: &[Connection<Seat>], watched: &[u8], dev: u32) -> bool
     ensures { result ≡ one_seated (clients_besides seen_of watched.now connections.now) dev }
 {
@@ -66,7 +66,7 @@ fn other_holds_nothing(connection: &Connection<Seat>, watched: &[u8]) -> bool
     }
 }
 
-// Whether none of these has, but for those of that name.
+// Whether no connection of another name among these has a device open.
 fn none_holds(connections: &[Connection<Seat>], watched: &[u8]) -> bool
     ensures { result ≡ none_seated (clients_besides seen_of watched.now connections.now) }
 {
@@ -79,7 +79,7 @@ fn none_holds(connections: &[Connection<Seat>], watched: &[u8]) -> bool
 }
 
 impl<'a> Others<'a> {
-    /// All of these, where the one that is left out isn't among them.
+    /// All of these connections; the one that is left out isn't among them.
     pub(crate) fn all(connections: &'a [Connection<Seat>]) -> Others<'a>
         ensures { connections_of result ≡ connections.now }
     {
@@ -89,7 +89,7 @@ impl<'a> Others<'a> {
         }
     }
 
-    // The one of that name.
+    // The connection of that name.
     fn named(&self, name: &[u8]) -> Option<&'a Connection<Seat>>
         ensures { option_copied result ≡ connection_named name.now (connections_of self.now) }
     {
@@ -99,7 +99,7 @@ impl<'a> Others<'a> {
         }
     }
 
-    /// The session of the one of that name.
+    /// The session of the connection of that name.
     pub(crate) fn session_of(&self, name: &[u8]) -> Option<&'a Session<Seat>>
         ensures { client_by seen_of result ≡ client_named seen_of name.now (connections_of self.now) }
     {
@@ -109,14 +109,14 @@ impl<'a> Others<'a> {
         }
     }
 
-    /// Whether one of another name has the device of that number open.
+    /// Whether a connection of another name has the device of that number open.
     pub(crate) fn one_holds(&self, watched: &[u8], dev: u32) -> bool
         ensures { result ≡ one_seated (clients_besides seen_of watched.now (connections_of self.now)) dev }
     {
         one_holds(self.before, watched, dev) || one_holds(self.after, watched, dev)
     }
 
-    /// Whether none of another name has a device open.
+    /// Whether no connection of another name has a device open.
     pub(crate) fn none_holds(&self, watched: &[u8]) -> bool
         ensures { result ≡ none_seated (clients_besides seen_of watched.now (connections_of self.now)) }
     {

@@ -19,21 +19,21 @@ impl Model for Quoted {
 }
 
 impl Quoted {
-    /// A text of these bytes, as they are: any bytes, not yet escaped.
+    /// A text of these bytes as they are: any bytes, not yet escaped.
     pub fn new(bytes: Vec<u8>) -> Quoted
         ensures { result ≡ bytes.items }
     {
         Quoted { bytes }
     }
 
-    /// The bytes, as they are.
+    /// The bytes as they are.
     pub fn bytes(&self) -> &[u8]
         ensures { result.now ≡ self.now }
     {
         self.bytes.as_slice()
     }
 
-    /// Gives the bytes away, as they are.
+    /// Gives the bytes away as they are.
     pub fn into_bytes(self) -> Vec<u8>
         ensures { result.items ≡ self }
     {

@@ -3,12 +3,12 @@
 use crate::quoted::Quoted;
 use iio_attr::Name;
 
-/// One step of a script. Triggers and devices go by their numbers in the description, moments are in the script's own unit.
+/// One step of a script. Triggers and devices are given by their numbers in the description, moments in the script's own unit.
 #[derive(Debug, Drop)]
 pub enum Step {
     /// `NAME "bytes"`: the connection of that name is fed these bytes.
     Feed(Name, Quoted),
-    /// `fire TRIGGER T`: a poll, and where it is accepted the handling of each entry that it made.
+    /// `fire TRIGGER T`: a poll, and if it is accepted, the handling of each entry that it made.
     Fire(u32, i64),
     /// `poll TRIGGER T`.
     Poll(u32, i64),
@@ -16,7 +16,7 @@ pub enum Step {
     Handle(u32, u32),
     /// `sense DEVICE T`: the device's thresholds are looked at.
     Sense(u32, i64),
-    /// `clock T`: the moment at which `raw` is read.
+    /// `clock T`: sets the moment at which `raw` is read.
     Clock(i64),
     /// `drop NAME`: the connection of that name is lost.
     Drop(Name),

@@ -36,7 +36,7 @@ use iio_sensor::Sensor;
 use iio_worlds::stance_law;
 use std::alloc::Global;
 
-// Looks at each channel's size: its type says that it has a byte.
+// Looks at each channel's size, whose type says that it is at least one byte.
 fn look_at_channels(shape: &Shape)
     ensures { All (λ channel. 1 ≤ size_of channel.ty) shape.now.channels }
 {
@@ -45,7 +45,7 @@ fn look_at_channels(shape: &Shape)
     }
 }
 
-// Looks at each device's channels: so a scan with a channel's data has a byte.
+// Looks at each device's channels: hence a scan with a channel's data is at least one byte.
 fn look_at_sizes(devices: &[AnyDevice])
     requires { All (λ (d : DeviceHead). 0 < length d.shape.channels) (map any_front devices.now) }
     ensures { Every HasDeviceSizes (map any_front devices.now) }
@@ -55,7 +55,7 @@ fn look_at_sizes(devices: &[AnyDevice])
     }
 }
 
-// A step and the bytes that it feeds.
+// The cost of a step: 1, and the number of bytes that it feeds.
 fn cost_of(step: &Step) -> u64
     ensures { result ≡ cost_of step.now }
 {
@@ -65,8 +65,8 @@ fn cost_of(step: &Step) -> u64
     }
 }
 
-// A step at a bench and its connections. `answers` is room for the answers to a feed; `last` is where the last connection
-// that was fed stands.
+// Performs a step at a bench and its connections. `answers` is room for the answers to a feed; `last` is the place of the
+// connection that was fed last.
 fn perform(
     alloc: Global,
     bench: &mut Bench,
@@ -112,7 +112,7 @@ fn perform(
     }
 }
 
-// Does what `perform` does, and answers whether the step keeps to the rules of bystanders beside the watched connection.
+// Does what `perform` does, and returns whether the step keeps to the rules of bystanders as to the watched connection.
 fn perform_guarded(
     alloc: Global,
     bench: &mut Bench,
@@ -159,7 +159,7 @@ fn perform_guarded(
 }
 
 impl System {
-    /// The core before the first step: no connection was fed, and the devices are those of a new [`Bench`].
+    /// The core before the first step: no connection was fed yet, and the devices are those of a new [`Bench`].
     pub fn new(
         alloc: Global,
         desc: Desc,
@@ -191,7 +191,7 @@ impl System {
         self.connections.len() < MAX_NAMES || place(&self.connections, name).is_some()
     }
 
-    /// Makes a step, and appends the lines that it prints. After `Mem` the system is only dropped.
+    /// Performs a step, and appends the lines that it prints. After `Mem` the system may only be dropped.
     pub fn step(&mut self, step: &Step, out: &mut Vec<u8>) -> Result<(), Mem>
         requires valid { IsValid (length (front_of self.old.bench).triggers) (length (front_of self.old.bench).devices) step.now }
         requires taken { IsTaken (names_by self.old) step.now }
@@ -215,8 +215,8 @@ impl System {
         )
     }
 
-    /// Does what [`System::step`] does, and answers whether each event of the step keeps to the rules of bystanders beside the
-    /// connection of the name `watched`. It takes no memory for that.
+    /// Does what [`System::step`] does, and returns whether each event of the step keeps to the rules of bystanders as to the
+    /// connection named `watched`. It allocates no memory for that.
     pub fn guarded(&mut self, watched: &[u8], step: &Step, out: &mut Vec<u8>) -> Result<bool, Mem>
         requires valid { IsValid (length (front_of self.old.bench).triggers) (length (front_of self.old.bench).devices) step.now }
         requires taken { IsTaken (names_by self.old) step.now }

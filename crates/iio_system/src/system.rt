@@ -22,11 +22,11 @@ pub struct System {
     pub(crate) connections: Vec<Connection<Seat>>,
     // Room for the answers to a feed.
     pub(crate) answers: Vec<u8>,
-    // Where the last connection that was fed stands.
+    // The place of the connection that was fed last.
     pub(crate) last: usize,
     pub(crate) used: u64,
     ghost owned: { AreOwning seen_of (front_of bench) connections.items } by { Prim.hlevel props },
-    // A step makes fewer captures of a device than 32.
+    // In a step a device makes at most 32 captures.
     ghost counted: { All (λ n. n ≤ 32 * used) (captures_of bench) } by { Prim.hlevel props },
     ghost few: { length connections.items ≤ max_names } by { Prim.hlevel props },
     ghost apart: { AreApart connections.items } by { Prim.hlevel props },
@@ -40,14 +40,14 @@ impl System {
     ghost use Rattle.iio_system.specs.Standing.{StandsFor};
     ghost use Rattle.iio_system.specs.Tally.{tally_of};
 
-    /// How many steps were made, and how many bytes were fed, in one number.
+    /// The number of steps that were made plus the number of bytes that were fed.
     pub fn used(&self) -> u64
         ensures { result ≡ self.now.used }
     {
         self.used
     }
 
-    /// What was counted over the steps that were made.
+    /// What was counted in the steps that were made.
     pub fn tally(&self) -> Tally
         ensures { (s : Setup) (h : List Event) → StandsFor ⟦<Plug as Sensor>⟧.driver s h self.now → result ≡ tally_of (summary_of s h) }
     {

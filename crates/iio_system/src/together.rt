@@ -11,7 +11,7 @@ use iio_device::{Handled, Plug};
 use iio_kinds::AnyDevice;
 use iio_sensor::Sensor;
 
-// A device takes a capture of that base, as its scan of all channels, where it is over it and has a member.
+// Gives a device a capture of that base, as the scan of all channels, if it is over that base and has a member.
 fn gather_one(device: &mut AnyDevice, base: u32, scan: &[u8])
     requires { IsReady ⟦<Plug as Sensor>⟧.driver base scan.now device.old }
     ensures { IsGathered ⟦<Plug as Sensor>⟧.driver base scan.now device.old device.new }
@@ -24,7 +24,7 @@ fn gather_one(device: &mut AnyDevice, base: u32, scan: &[u8])
     }
 }
 
-// Each of these devices takes it.
+// Gives it to each of these devices.
 fn gather_all(devices: &mut [AnyDevice], base: u32, scan: &[u8])
     requires { All (IsReady ⟦<Plug as Sensor>⟧.driver base scan.now) devices.old }
     ensures { AreGathered ⟦<Plug as Sensor>⟧.driver base scan.now devices.old devices.new }
@@ -34,7 +34,7 @@ fn gather_all(devices: &mut [AnyDevice], base: u32, scan: &[u8])
     }
 }
 
-// Each averaging device over that base takes the capture whose scan of all channels stands there.
+// Gives each averaging device over that base the base's capture, whose scan of all channels is kept at the base.
 fn gather_over(devices: &mut Vec<AnyDevice>, first_average: u32, base: u32)
     requires { CanGather ⟦<Plug as Sensor>⟧.driver first_average base devices.old.items }
     ensures { AreGathered ⟦<Plug as Sensor>⟧.driver base (scan_at base devices.old.items) devices.old.items devices.new.items }
@@ -43,7 +43,7 @@ fn gather_over(devices: &mut Vec<AnyDevice>, first_average: u32, base: u32)
     gather_all(averages, base, others[base as usize].full_scan());
 }
 
-/// Where the handling of an entry of that base made a capture, each averaging device over it takes it.
+/// If the handling of an entry of that base made a capture, gives it to each averaging device over the base.
 pub(crate) fn gather(
     devices: &mut Vec<AnyDevice>,
     first_average: u32,
@@ -58,7 +58,7 @@ pub(crate) fn gather(
     }
 }
 
-// Whether a device of that number goes with the unplugging of one.
+// Whether the device `device` of the number `number` is unplugged when the device `dev` is.
 fn goes_with(device: &AnyDevice, number: u32, dev: u32) -> bool
     ensures { result ≡ is_unplugged_by (any_front device.now).kind dev number }
 {
@@ -68,7 +68,7 @@ fn goes_with(device: &AnyDevice, number: u32, dev: u32) -> bool
     }
 }
 
-/// Unplugs a device that is no averaging one, and each averaging device over it.
+/// Unplugs a device that isn't an averaging one, and each averaging device over it.
 pub(crate) fn unplug_all(devices: &mut Vec<AnyDevice>, dev: u32)
     requires { length devices.old.items ≤ MAX_DEVICES }
     ensures { AreUnplugged ⟦<Plug as Sensor>⟧.driver dev devices.old.items devices.new.items }

@@ -3,7 +3,7 @@ use Rattle.std.specs.Prelude.{◌≡◌, ℕ, ◌+◌, ◌≤◌, List, Option, 
 use Rattle.iio_derive.specs.declared.members.Membership.{Membership}
 use Rattle.iio_derive.specs.Members.{member_at}
 
--- at most `most` offers were made to the member's queue, and its scans have that size
+-- at most `most` offers were made to the member's queue, and its scans have `size` bytes
 pub record IsTested (most size : ℕ) (m : Membership) : Type 0 where
   pub few : m.queue.taken + m.queue.lost ≤ most
   pub sized : m.queue.size ≡ size

@@ -1,4 +1,4 @@
-//! The lower crates, one subject a module. Expected values by hand.
+//! The lower crates, with one module for each subject. Expected values are by hand.
 
 mod attributes;
 mod averages;

@@ -7,7 +7,7 @@ abbrev pub begun_words : Bool → List ℕ → ℕ
 begun_words after [] = 0
 begun_words after (b ∷ bs) = cond (after && not (is_space b)) 1 0 + begun_words (is_space b) bs
 
--- after a blank one word more begins, where a word begins at once
+-- after a blank another word begins, if the text begins with a word
 begun_words-blank : (text : List ℕ) → begun_words true text ≡ begun_words false text + cond (begins_word is_space text) 1 0
 begun_words-blank [] = refl
 begun_words-blank (b ∷ bs) = by_blank (is_space b) (begun_words (is_space b) bs)
@@ -16,7 +16,7 @@ begun_words-blank (b ∷ bs) = by_blank (is_space b) (begun_words (is_space b) b
     by_blank true n = omega arith
     by_blank false n = omega arith
 
--- a byte that begins a word, or goes onto the word after it
+-- a byte that begins a word, or is put onto the word after it
 length-onto_first : (b n : ℕ) (begins : Bool) (words : List (List ℕ)) → length words ≡ n + cond begins 1 0 → length (onto_first b begins words) ≡ n + 1
 length-onto_first b n true [] h = absurd (omega (arith, h))
 length-onto_first b n true (w ∷ ws) h = h

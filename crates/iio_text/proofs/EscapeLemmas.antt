@@ -131,7 +131,7 @@ pub plain_place : (s : List ℕ) → position_or_len (λ b. not (is_plain b)) s 
 plain_place [] = refl
 plain_place (b ∷ bs) = ap (λ n. cond (not (not (is_plain b))) (1 + n) 0) (plain_place bs) ∙ plain_step (is_plain b) (prefix_len is_plain bs)
 
--- what a text means from a place on: its first n bytes, and what stands after them
+-- what a text means from a place on: its first n bytes, followed by what the text after them means
 abbrev Means : ℕ → List ℕ → ℕ → Type 0
 Means place s n = unescaped_from place 0 s ≡ before (take n s) (unescaped_from (place + n) 0 (drop n s))
 
@@ -153,12 +153,12 @@ run_by place b rest more false p =
     let whole : Means place (b ∷ rest) 0 = rw add-zero (sym (before-nil (unescaped_from place 0 (b ∷ rest)))) in
     subst (Means place (b ∷ rest)) (sym len) whole
 
--- the bytes at a text's begin that stand for themselves, and what the text after them means
+-- the bytes at a text's beginning that stand for themselves, followed by what the text after them means
 plain_run : (place : ℕ) (s : List ℕ) → Means place s (prefix_len is_plain s)
 plain_run place [] = refl
 plain_run place (b ∷ rest) = run_by place b rest (plain_run (place + 1) rest) (is_plain b) refl
 
--- what is read with the bytes before the next one that doesn't stand for itself
+-- what was read, with the bytes before the next one that doesn't stand for itself
 pub run_more : (text out items : List ℕ) (place n k : ℕ) → unescaped text ≡ before out (unescaped_from place 0 (drop place text))
     → n ≡ position_or_len (λ b. not (is_plain b)) (drop place text) → k ≡ n
     → items ≡ out ++ mid_of place k text → unescaped text ≡ before items (unescaped_from (place + n) 0 (drop (place + n) text))
@@ -170,7 +170,7 @@ run_more text out items place n k so_far is same all =
     ∙ before-before out (take len after) _
     ∙ ap (λ s. before (out ++ take len after) (unescaped_from (place + len) 0 s)) (drop-drop len place text))
 
--- the same, where the bytes are copied into a room that has what was read so far
+-- what was read, with those bytes copied into a room that has what was read before
 pub copied_more : (text out grown room after : List ℕ) (place len n m k : ℕ) → unescaped text ≡ before (take len out) (unescaped_from place 0 (drop place text))
     → n ≡ position_or_len (λ b. not (is_plain b)) (drop place text)
     → grown ≡ out → take n room ≡ take n (drop place text) → len ≤ length out → n ≤ length room → len + n ≤ m
@@ -185,7 +185,7 @@ pub whole_read : (text out : List ℕ) (place : ℕ) → unescaped text ≡ befo
     → unescaped text ≡ Ok out
 whole_read text out place so_far past = so_far ∙ ap (λ s. before out (unescaped_from place 0 s)) (drop_all place text past) ∙ ap Ok (append-nil out)
 
--- no piece stands where a text goes on
+-- if no piece stands where a text goes on, the text is wrong there
 no_piece_by : (place : ℕ) (s : List ℕ) → 0 < length s → piece_of s ≡ None → unescaped_from place 0 s ≡ Err place
 no_piece_by place [] some none = absurd (omega arith)
 no_piece_by place (b ∷ rest) some none = ap (λ o. piece_then place o (λ m. unescaped_from (place + 1) m rest)) none

@@ -35,7 +35,7 @@ padded_digit ds places i d h here past =
           ∙ sym (past ge)
     ]
 
--- one more digit after the point
+-- another digit after the point
 pub part_more : (ds : List ℕ) (places i d : ℕ) → i < places → (i < length ds → d ≡ digit_value (get_or ds i 0)) → (length ds ≤ i → d ≡ 0)
     → digits_value 10 (take (i + 1) (ds ++ replicate places 48)) ≡ digits_value 10 (take i (ds ++ replicate places 48)) * 10 + d
 part_more ds places i d h here past =
@@ -130,7 +130,7 @@ number_end Int ds part h some = subst EndsWithDigit (sym (append-nil ds)) (digit
 number_end Micro ds part h some = fraction_end 6 ds part (omega arith)
 number_end Nano ds part h some = fraction_end 9 ds part (omega arith)
 
--- the value of right digits
+-- the value of valid digits
 by_digits : (form : Form) (minus : Bool) (ds es : List ℕ) (whole part : ℕ) → list_all is_ascii_digit ds ≡ true → list_all is_ascii_digit es ≡ true
     → 0 < length ds → digits_value 10 ds ≡ whole → whole ≤ 2147483647 → part_value (places_of form) es ≡ part
     → fixed_by form minus ds es ≡ Ok (signed_fixed form minus whole part)
@@ -218,7 +218,7 @@ led_digits (suc k) q few h =
     ∙ ap (λ n. decimal (x + q / 10) ++ (48 + n) ∷ []) (led_step x q).1
     ∙ ap (λ ds. ds ++ (48 + q % 10) ∷ []) rest
 
--- the digits of what is left behind a power of ten
+-- the digits of the remainder by a power of ten
 kept_digit : (x p : ℕ) → 0 < x → (p % (x * 10) / 10 ≡ p / 10 % x) × (p % (x * 10) % 10 ≡ p % 10)
 kept_digit x p some =
     let c = p / (x * 10) in

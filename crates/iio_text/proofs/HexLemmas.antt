@@ -1,4 +1,4 @@
--- Bytes as two digits each, with one byte more.
+-- Bytes as two digits each, with another byte.
 use Rattle.std.proofs.Common.{◌≡◌, ℕ, ◌+◌, ◌<◌, take, length, get_or, List, [], ◌∷◌, ◌++◌, Result, Ok, Err, refl, sym, ap, ◌∙◌, append_assoc, append-nil}
 use Rattle.std.proofs.lemmas.List.{take_more}
 use Rattle.std.specs.Prelude.{IsOk, OnOk, slice_index, ◌/◌, ◌%◌}

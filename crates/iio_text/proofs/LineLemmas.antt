@@ -41,6 +41,6 @@ pub first_end : (text : List ℕ) (n : ℕ) → NoneBefore (Passes (is_byte 10) 
     → n ≡ position_or_len is_line_end text
 first_end text n h = sym (position_or_len_is is_line_end text n 0 (let within = h.0.high in omega (arith, within)) (none_before text n h.0.before) (λ _. h.1))
 
--- there is none
+-- a text without an LF
 pub no_end : (text : List ℕ) → Nowhere (Passes (is_byte 10) text) 0 (length text) → length text ≡ position_or_len is_line_end text
 no_end text h = sym (position_or_len_is is_line_end text (length text) 0 (omega arith) (none_before text (length text) h) (λ past. absurd (omega arith)))

@@ -11,12 +11,12 @@ use Rattle.std.proofs.lemmas.Bool.Decides.{nat_tests}
 use Rattle.std.proofs.lemmas.List.{at_drop_more}
 use Rattle.iio_text.specs.Numbers.{value_up_to, number_of, plain_value, negative_of, int_of}
 
--- further digits make a number no smaller
+-- further digits don't make a number smaller
 pub digits_value_after-ge : (n : ℕ) (ds : List ℕ) → n ≤ digits_value_after 10 n ds
 digits_value_after-ge n [] = omega arith
 digits_value_after-ge n (d ∷ ds) = omega (arith, digits_value_after-ge (n * 10 + digit_value d) ds)
 
--- past a tenth of the limit, one more digit is past the limit
+-- above a tenth of the limit, another digit makes a number above the limit
 pub digits_value_after-past : (limit n : ℕ) (text : List ℕ) (i : ℕ) → i < length text → limit / 10 < n → limit < digits_value_after 10 n (drop i text)
 digits_value_after-past limit n text i here past =
     let e = at_drop_more (digits_value_after 10 n) text i 0 here in
@@ -27,11 +27,11 @@ digits_value_after-past limit n text i here past =
 pub no_digits : (text : List ℕ) (i : ℕ) → i < length text → is_ascii_digit (get_or text i 0) ≡ false → list_all is_ascii_digit (drop i text) ≡ false
 no_digits text i here e = at_drop_more (list_all is_ascii_digit) text i 0 here ∙ ap (λ b. b && list_all is_ascii_digit (drop (i + 1) text)) e
 
--- where a byte is no digit, there is no number
+-- if a byte is no digit, there is no number
 pub value_up_to-no_digits : (limit : ℕ) (text : List ℕ) → list_all is_ascii_digit text ≡ false → value_up_to limit text ≡ None
 value_up_to-no_digits limit text e = rw e refl
 
--- past the limit there is none
+-- above the limit there is no number
 pub value_up_to-past : (limit : ℕ) (text : List ℕ) → limit < digits_value 10 text → value_up_to limit text ≡ None
 value_up_to-past limit text past = grind (arith, nat_tests)
 

@@ -15,11 +15,11 @@ use Rattle.std.proofs.lemmas.Slice.Eq.{bytes_eq-Decides}
 use Rattle.iio_text.specs.Escape.{escaped, escaped_byte, is_plain}
 use Rattle.iio_text.specs.declared.escapes.TheConstants.{PRINTED, PRINTED_LENS}
 
--- how many bytes a byte is printed as
+-- the number of bytes that a byte is printed as
 abbrev pub printed_len : ℕ → ℕ
 printed_len b = get_or PRINTED_LENS b 0
 
--- the four bytes that the table has of a byte
+-- the four bytes that the table has for a byte
 abbrev pub entry : ℕ → List ℕ
 entry b = take 4 (drop (4 * b) PRINTED)
 
@@ -45,7 +45,7 @@ printed_len-le b h = leb-true (printed_len b) 4 (agree_below_at (λ c. leb (prin
 all_plain : agree_below (λ b. eqb (printed_len b) 1) is_plain 256 ≡ true
 all_plain = refl
 
--- the bytes that are printed as one stand for themselves
+-- exactly the bytes that are printed as one byte stand for themselves
 pub one_is_plain : (b : ℕ) → b < 256 → eqb (get_or PRINTED_LENS b 0) 1 ≡ is_plain b
 one_is_plain b h = agree_below_at (λ c. eqb (printed_len c) 1) is_plain 256 b all_plain h
 
@@ -57,26 +57,26 @@ printed b after h =
     take-append-le (printed_len b) (entry b) after fits
     ∙ (bytes_eq-Decides _ _).0 (agree_below_at is_right (λ c. true) 256 b all_right h)
 
--- four bytes of a table, stored at the begin of a room
+-- four bytes of a table, stored at the beginning of a room
 stored : (i k : ℕ) (table room : List ℕ) → 4 ≤ k → 4 ≤ length room
     → put_chunk 0 room (chunk 0 4 (mid_of i k table)) ≡ take 4 (drop i table) ++ drop (length (take 4 (drop i table))) room
 stored i k table room more fits =
     let short : 0 + length (take 4 (drop i table)) ≤ length room = omega (arith, length-take 4 (drop i table)) in
     ap (put_chunk 0 room) (take-take 4 k (drop i table) more) ∙ put_chunk_is 0 room (take 4 (drop i table)) short
 
--- the byte as it is printed stands at the begin of the room then
+-- afterwards the byte as it is printed stands at the beginning of the room
 pub printed_stored : (b k : ℕ) (room : List ℕ) → b < 256 → 4 ≤ length room → 4 ≤ k
     → take (printed_len b) (put_chunk 0 room (chunk 0 4 (mid_of (4 * b) k PRINTED))) ≡ escaped_byte b
 printed_stored b k room h fits more = ap (take (printed_len b)) (stored (4 * b) k PRINTED room more fits) ∙ printed b _ h
 
--- what stands in a room up to a place, and a part that is written there
+-- what stands in a room up to a place, followed by a part that is written there
 pub take_into : (a k n : ℕ) (xs ys : List ℕ) → a ≤ length xs → n ≤ length ys → take (a + n) (put_mid a k xs ys) ≡ take a xs ++ take n ys
 take_into a k n xs ys h m =
     ap (λ l. take (l + n) (put_mid a k xs ys)) (sym (length-take-le a xs h))
     ∙ take-append-add (take a xs) (ys ++ post_of a k xs) n
     ∙ ap (λ t. take a xs ++ t) (take-append-le n ys (post_of a k xs) m)
 
--- the same, of a vector that grew for the part, and is cut after it
+-- what stands in a vector up to a place, followed by a part for which it grew, and after which it is cut
 pub take_grown : (a k n m : ℕ) (xs ys after : List ℕ) → a ≤ length xs → n ≤ length ys → a + n ≤ m
     → take (a + n) (take m (put_mid a k xs ys ++ after)) ≡ take a xs ++ take n ys
 take_grown a k n m xs ys after h l within =
@@ -97,18 +97,18 @@ pub take_kept : (xs ys : List ℕ) (a m : ℕ) → a ≡ length xs → take a (t
 take_kept xs ys a m e =
     ap (λ t. take a (t ++ ys)) (take_all (a + m) xs (omega (arith, e))) ∙ take-append-le a xs ys (omega (arith, e)) ∙ take_all a xs (omega (arith, e))
 
--- bytes up to a place, and some more from there on
+-- bytes up to a place, followed by some more from there on
 pub escaped_next : (bytes : List ℕ) (place more : ℕ) → escaped (take place bytes) ++ escaped (chunk place more bytes) ≡ escaped (take (place + more) bytes)
 escaped_next bytes place more = sym (flat_map-append escaped_byte (take place bytes) (chunk place more bytes)) ∙ ap escaped (sym (take-add place more bytes))
 
--- bytes up to a place, and from there on to another one
+-- bytes up to a place, followed by those from there on to another place
 pub escaped_on : (bytes : List ℕ) (place end : ℕ) → place ≤ end
     → escaped (take place bytes) ++ escaped (mid_of place (end - place) bytes) ≡ escaped (take end bytes)
 escaped_on bytes place end h =
     let e : place + (end - place) ≡ end = omega arith in
     escaped_next bytes place (end - place) ∙ ap (λ n. escaped (take n bytes)) e
 
--- bytes up to a place, and the one there
+-- bytes up to a place, followed by the one there
 pub escaped_more : (bytes : List ℕ) (i : ℕ) → i < length bytes → escaped (take i bytes) ++ escaped_byte (get_or bytes i 0) ≡ escaped (take (i + 1) bytes)
 escaped_more bytes i h = flat_map_more escaped_byte [] (take i bytes) (get_or bytes i 0) ∙ ap escaped (sym (take_more bytes i 0 h))
 

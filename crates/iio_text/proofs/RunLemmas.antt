@@ -12,7 +12,7 @@ use lib.Lanes.{zip2, chunk, put_chunk, mask_l, top}
 use Rattle.std.specs.Prelude.{◌==◌, if◌then◌else◌}
 use Rattle.std.specs.Int.{w64, trailing_zeros}
 
--- the place of the lowest bit of a mask of n, or n where none is set
+-- the place of the lowest bit of a mask of n bits, or n if none is set
 abbrev pub first_of : ℕ → ℕ → ℕ
 first_of mask n = if mask == 0 then n else trailing_zeros w64 mask
 
@@ -20,7 +20,7 @@ first_of mask n = if mask == 0 then n else trailing_zeros w64 mask
 pub joined : (h : ℕ → ℕ → ℕ) (f g : ℕ → ℕ) (v : List ℕ) {a b : List ℕ} → a ≡ map f v → b ≡ map g v → zip2 h a b ≡ map (λ x. h (f x) (g x)) v
 joined h f g v p q = zip2_of_maps h f g v p q
 
--- two tests that agree on bytes have one first place
+-- two tests that agree on bytes have the same first place
 same_place : (p q : ℕ → Bool) (v : List ℕ) → agree_below p q 256 ≡ true → ((k : ℕ) → k < length v → Fits w8 (get_or v k 0))
     → position_or_len p v ≡ position_or_len q v
 same_place p q [] all fits = refl
@@ -28,7 +28,7 @@ same_place p q (x ∷ xs) all fits =
     let here : p x ≡ q x = agree_below_at p q 256 x all (fits 0 (omega arith)).fits in
     rw (here, same_place p q xs all (λ k h. fits (suc k) (omega arith))) refl
 
--- the mask of a load of n bytes, where a lane's top bit is set just where its byte passes
+-- the mask of a load of n bytes, in which a lane's top bit is set exactly if its byte passes
 pub lanes_place : (q : ℕ → Bool) (d : List ℕ) (n i r : ℕ) (z : List ℕ) → n ≤ 64 → i + n ≤ length d → ((k : ℕ) → Fits w8 (get_or d k 0))
     → r ≡ first_of (mask_l (map (top 7) z) % 2 ^ 64) n → (f : ℕ → ℕ) → z ≡ map f (chunk i n d) → agree_below (λ x. top 7 (f x)) q 256 ≡ true
     → r ≡ position_or_len q (chunk i n d)
@@ -41,7 +41,7 @@ lanes_place q d n i r z few room fits found f lanes all =
     found ∙ ap (λ m. first_of m n) mask ∙ first_set_mask_l p v n long few
     ∙ same_place p q v all (λ k h. subst (Fits w8) (sym (get_or-chunk i n d k 0 (omega (arith, long)))) (fits (i + k)))
 
--- the same mask, by the bytes
+-- two tests that agree on bytes give the same mask
 same_map : (p q : ℕ → Bool) (v : List ℕ) → agree_below p q 256 ≡ true → ((k : ℕ) → k < length v → Fits w8 (get_or v k 0)) → map p v ≡ map q v
 same_map p q [] all fits = refl
 same_map p q (x ∷ xs) all fits =
@@ -61,7 +61,7 @@ some_step : (t : Bool) (n k l : ℕ) → 0 < cond t 1 0 + 2 * n → (0 < n → k
 some_step true n k l h more = omega arith
 some_step false n k l h more = let e = more (omega arith) in omega arith
 
--- where a bit is set, some byte passes
+-- if a bit is set, some byte passes
 pub some_lane : (q : ℕ → Bool) (v : List ℕ) → 0 < mask_l (map q v) → position_or_len q v < length v
 some_lane q [] h = absurd (omega arith)
 some_lane q (x ∷ xs) h = some_step (q x) (mask_l (map q xs)) (position_or_len q xs) (length xs) h (some_lane q xs)
@@ -95,7 +95,7 @@ front_step : (t : Bool) (n m : ℕ) → n ≤ m → cond (not t) (1 + n) 0 ≤ c
 front_step true n m h = omega arith
 front_step false n m h = omega arith
 
--- the first place of a front is never after that of the whole
+-- the first place of a front is never after the first place of the whole
 pub place_front : (q : ℕ → Bool) (a b : List ℕ) → position_or_len q a ≤ position_or_len q (a ++ b)
 place_front q [] b = omega arith
 place_front q (x ∷ xs) b = front_step (q x) (position_or_len q xs) (position_or_len q (xs ++ b)) (place_front q xs b)
@@ -109,7 +109,7 @@ place_in_front : (q : ℕ → Bool) (a b : List ℕ) → position_or_len q a < l
 place_in_front q [] b h = absurd (omega arith)
 place_in_front q (x ∷ xs) b h = in_front_step (q x) (position_or_len q xs) (position_or_len q (xs ++ b)) (length xs) h (place_in_front q xs b)
 
--- a run of n bytes after bytes none of which passes: one of the run passes,
+-- a run of n bytes after bytes none of which passes: one byte of the run passes
 pub place_in_run : (q : ℕ → Bool) (d : List ℕ) (n i r : ℕ) → i + n ≤ length d → i ≤ position_or_len q d → r ≡ position_or_len q (chunk i n d) → r < n
     → position_or_len q d ≡ i + r
 place_in_run q d n i r room before is short =
@@ -117,7 +117,7 @@ place_in_run q d n i r room before is short =
     let whole = ap (position_or_len q) (chunk-drop i n d) ∙ front ∙ sym is in
     place_skip q d i before ∙ ap (λ m. i + m) whole
 
--- or none does
+-- a run of n bytes after bytes none of which passes: no byte of the run passes
 pub place_past_run : (q : ℕ → Bool) (d : List ℕ) (n i r : ℕ) → i ≤ position_or_len q d → r ≡ position_or_len q (chunk i n d) → n ≤ r
     → i + n ≤ position_or_len q d
 place_past_run q d n i r before is long =
@@ -126,7 +126,7 @@ place_past_run q d n i r before is long =
     subst (λ (t : List ℕ). position_or_len q (chunk i n d) ≤ position_or_len q t) (sym (chunk-drop i n d)) (place_front q (chunk i n d) (drop (i + n) d)) in
     omega (arith, skip, front, is)
 
--- what a room has of a text up to a place, and a part of the run that is stored there
+-- what a room has of a text up to a place, and a part of the next run that is stored there
 pub copied_on : (text room : List ℕ) (i n : ℕ) → i + 16 ≤ length text → length text ≤ length room → n ≤ 16 → take i room ≡ take i text
     → take (i + n) (put_chunk i room (chunk i 16 text)) ≡ take (i + n) text
 copied_on text room i n here fits part same =
@@ -155,7 +155,7 @@ same_all p q (x ∷ xs) all fits =
     let here : p x ≡ q x = agree_below_at p q 256 x all (fits 0 (omega arith)).fits in
     rw (here, same_all p q xs all (λ k h. fits (suc k) (omega arith))) refl
 
--- the mask of a load of n bytes, where a lane's top bit is set just where its byte fails
+-- the mask of a load of n bytes, in which a lane's top bit is set exactly if its byte fails
 pub lanes_all : (q : ℕ → Bool) (d : List ℕ) (i n : ℕ) (z : List ℕ) → n ≤ 64 → i + n ≤ length d → ((k : ℕ) → Fits w8 (get_or d k 0))
     → (f : ℕ → ℕ) → z ≡ map f (chunk i n d) → agree_below (λ x. not (top 7 (f x))) q 256 ≡ true
     → eqb (mask_l (map (top 7) z) % 2 ^ 64) 0 ≡ list_all q (chunk i n d)
@@ -181,7 +181,7 @@ one_fails q d i n e =
     ∙ ap (λ b. b && list_all q (drop n (drop i d))) e)
     ∙ and-false (list_all q (take i d))
 
--- a front and a back that together are all
+-- a front and a back that together cover all
 cover_front : (t a b : Bool) → a ≡ (b && a) → (t && a) ≡ ((t && b) && (t && a))
 cover_front true a b h = h
 cover_front false a b h = refl

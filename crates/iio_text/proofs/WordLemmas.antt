@@ -16,7 +16,7 @@ pub words_of-skip : (blank : ℕ → Bool) (s : List ℕ) → words_of blank (dr
 words_of-skip blank [] = refl
 words_of-skip blank (b ∷ bs) = skip_byte blank b bs (blank b) refl (words_of-skip blank bs)
 
--- after the blanks a word begins, where anything stands there
+-- after the blanks a word begins, if anything stands there
 begins_byte : (blank : ℕ → Bool) (b : ℕ) (bs : List ℕ) (v : Bool) → blank b ≡ v
     → (0 < length (drop (prefix_len blank bs) bs) → begins_word blank (drop (prefix_len blank bs) bs) ≡ true)
     → 0 < length (drop (prefix_len blank (b ∷ bs)) (b ∷ bs)) → begins_word blank (drop (prefix_len blank (b ∷ bs)) (b ∷ bs)) ≡ true
@@ -74,6 +74,6 @@ first_word_is blank text begun word rest a b c d =
       ended = rw d h.ended;
     }
 
--- where nothing stands after the blanks, there is no word
+-- if nothing stands after the blanks, there is no word
 pub no_word : (blank : ℕ → Bool) (text : List ℕ) → length (drop (prefix_len blank text) text) ≡ 0 → words_of blank text ≡ []
 no_word blank text h = sym (words_of-skip blank text) ∙ ap (words_of blank) (nil_from_length _ h)

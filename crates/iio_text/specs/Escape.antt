@@ -49,7 +49,7 @@ abbrev pub piece_of : List ℕ → Option (ℕ × ℕ)
 piece_of [] = None
 piece_of (b ∷ rest) = if b == 92 then escape_of rest else if is_plain b then Some (b, 0) else None
 
--- bytes put before those that follow
+-- bytes put before the bytes that follow
 abbrev pub before : List ℕ → Result (List ℕ) ℕ → Result (List ℕ) ℕ
 before bs (Ok more) = Ok (bs ++ more)
 before bs (Err place) = Err place
@@ -69,7 +69,7 @@ unescaped_from place zero (b ∷ rest) = piece_then place (piece_of (b ∷ rest)
 abbrev pub unescaped : List ℕ → Result (List ℕ) ℕ
 unescaped text = unescaped_from 0 0 text
 
--- an error is that place, or want of memory
+-- an error has that place, or is lack of memory
 abbrev pub Explains : Unescape → Result (List ℕ) ℕ → Type 0
 Explains (BadEscape place) read = read ≡ Err place
 Explains Mem read = Unit {0}

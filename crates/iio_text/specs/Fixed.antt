@@ -16,13 +16,13 @@ places_of Int = 0
 places_of Micro = 6
 places_of Nano = 9
 
--- a value in range, where zero has no sign
+-- a value in range; zero has no sign
 pub record IsFixed (v : Fixed) : Type 0 where
   pub sign : v.negative ≡ true → 0 < v.whole + v.part
   pub whole : v.whole ≤ 2147483647
   pub part : v.part < 10 ^ places_of v.form
 
--- a text without one such byte at its end
+-- a text without its last byte, if that is this byte
 abbrev pub without_last : ℕ → List ℕ → List ℕ
 without_last b text = if nat_le 1 (length text) && slice_index text (length text - 1) == b then take (length text - 1) text else text
 
@@ -65,7 +65,7 @@ part_value places digits = digits_value 10 (take places (digits ++ replicate pla
 abbrev pub signed_fixed : Form → Bool → ℕ → ℕ → Fixed
 signed_fixed form minus whole part = record { negative = minus && not (whole == 0 && part == 0); whole = whole; part = part; form = form }
 
--- the value of the digits; or these aren't digits, or the whole part is too large
+-- the value of the digits; refused if these aren't digits, or if the whole part is too large
 abbrev pub fixed_by : Form → Bool → List ℕ → List ℕ → Result Fixed Errno
 fixed_by form minus whole part = if are_right whole part
     then (if nat_le (digits_value 10 whole) 2147483647 then Ok (signed_fixed form minus (digits_value 10 whole) (part_value (places_of form) part))
@@ -87,7 +87,7 @@ part_text Int part = []
 part_text Micro part = 46 ∷ last_digits 6 part
 part_text Nano part = 46 ∷ last_digits 9 part
 
--- the one text of a value: the sign stands also before a whole part of 0
+-- the one text of a value: a negative one has the sign also before a whole part of 0
 abbrev pub printed_fixed : Fixed → List ℕ
 printed_fixed v = (if v.negative then 45 ∷ [] else []) ++ decimal v.whole ++ part_text v.form v.part
 

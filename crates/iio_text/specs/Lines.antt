@@ -12,12 +12,12 @@ use Rattle.iio_text.specs.Words.{words_of, is_space}
 abbrev pub is_line_end : ℕ → Bool
 is_line_end b = b == 10
 
--- a byte that stands before these lines, on the line of the first of them
+-- these lines, with a byte put before the first of them
 abbrev pub onto_line : ℕ → List (List ℕ) → List (List ℕ)
 onto_line b [] = (b ∷ []) ∷ []
 onto_line b (line ∷ lines) = (b ∷ line) ∷ lines
 
--- the lines of a text: LF ends a line, and a last line without LF counts where it isn't empty
+-- the lines of a text: LF ends a line, and a last line without LF counts if it isn't empty
 abbrev pub lines_of : List ℕ → List (List ℕ)
 lines_of [] = []
 lines_of (b ∷ bs) = if is_line_end b then [] ∷ lines_of bs else onto_line b (lines_of bs)
@@ -44,7 +44,7 @@ is_blank_line (word ∷ words) = false
 abbrev pub is_printable : ℕ → Bool
 is_printable b = nat_le 32 b && nat_le b 126
 
--- the words of a line that isn't too long and, where it has a word and isn't a comment, is printable
+-- the words of a line that isn't too long and, if it has a word and isn't a comment, is printable
 abbrev pub words_of_line : List ℕ → Result (List (List ℕ)) Why
 words_of_line line = do
   ensure (fits_line line) Long

@@ -4,7 +4,7 @@ use Rattle.std.specs.List.{list_all}
 use Rattle.std.specs.Char.{is_ascii_digit}
 use Rattle.std.specs.Str.Parse.{digits_value}
 
--- the number that decimal digits write, where it is at most the limit
+-- the number that decimal digits write, if it is at most the limit
 abbrev pub value_up_to : ℕ → List ℕ → Option ℕ
 value_up_to limit text = if list_all is_ascii_digit text && nat_le (digits_value 10 text) limit then Some (digits_value 10 text) else None
 
@@ -12,7 +12,7 @@ value_up_to limit text = if list_all is_ascii_digit text && nat_le (digits_value
 abbrev pub number_of : List ℕ → Option ℕ
 number_of text = if nat_le 1 (length text) && nat_le (length text) 10 then value_up_to 4294967295 text else None
 
--- the number that `0`, or digits without a leading zero, write, where it is at most the limit
+-- the number that `0`, or digits without a leading zero, write, if it is at most the limit
 abbrev pub plain_value : ℕ → List ℕ → Option ℕ
 plain_value limit [] = None
 plain_value limit (d ∷ ds) = if d == 48 then (if length ds == 0 then Some 0 else None) else value_up_to limit (d ∷ ds)

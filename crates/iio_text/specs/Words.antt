@@ -16,13 +16,13 @@ abbrev pub begins_word : (ℕ → Bool) → List ℕ → Bool
 begins_word blank [] = false
 begins_word blank (b ∷ bs) = not (blank b)
 
--- a byte put before words: onto the first of them, or as a word of its own
+-- words, with a byte put before them: onto the first, or as a word of its own
 abbrev pub onto_first : ℕ → Bool → List (List ℕ) → List (List ℕ)
 onto_first b true [] = (b ∷ []) ∷ []
 onto_first b true (word ∷ words) = (b ∷ word) ∷ words
 onto_first b false words = (b ∷ []) ∷ words
 
--- the words of a text; a byte that is no blank goes onto the word that follows it without a blank between
+-- the words of a text; a byte that is no blank is put onto the word that follows it without a blank in between
 abbrev pub words_of : (ℕ → Bool) → List ℕ → List (List ℕ)
 words_of blank [] = []
 words_of blank (b ∷ bs) = if blank b then words_of blank bs else onto_first b (begins_word blank bs) (words_of blank bs)

@@ -5,10 +5,10 @@ ghost use Rattle.hex.specs.Hex.{encode_lower};
 
 use iio_base::Mem;
 
-// The most bytes that are few: a call that copies them would cost more than they do.
+// The most bytes that are appended one by one: a call that copies so few would cost more than they do.
 const FEW: usize = 4;
 
-/// Appends bytes in the room that is there for them.
+/// Appends bytes to `out`, which has room for them.
 #[inline(always)]
 pub fn append_reserved(bytes: &[u8], out: &mut Vec<u8>)
     requires { length out.old.items + length bytes.now ≤ vec_capacity out.old }
@@ -22,7 +22,7 @@ pub fn append_reserved(bytes: &[u8], out: &mut Vec<u8>)
     }
 }
 
-// Appends bytes one by one in the room that is there for them.
+// Appends bytes one by one to `out`, which has room for them.
 #[inline(always)]
 fn append_each(bytes: &[u8], out: &mut Vec<u8>)
     requires { length out.old.items + length bytes.now ≤ vec_capacity out.old }
@@ -34,7 +34,7 @@ fn append_each(bytes: &[u8], out: &mut Vec<u8>)
     }
 }
 
-/// Appends bytes as two lower-case digits each.
+/// Appends bytes as two lower-case hexadecimal digits each.
 pub fn push_hex(out: &mut Vec<u8>, bytes: &[u8]) -> Result<(), Mem>
     ensures { OnOk result (out.new.items ≡ out.old.items ++ encode_lower bytes.now) }
 {

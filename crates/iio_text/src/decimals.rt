@@ -1,4 +1,4 @@
-//! Values from their texts, and their texts.
+//! Reads values from their texts, and prints them.
 
 ghost use Rattle.std.specs.Prelude.{◌≡◌, true, ◌+◌, ◌/◌, ◌≤◌, ◌++◌, ◌∷◌, ◌^◌, ◌<◌, if◌then◌else◌, ℕ, All, Ok, IfOk, OnOk, OnErr, IsOkAnd, length, drop, decimal, replicate, slice_index, string_bytes};
 ghost use Rattle.std.specs.List.{position_or_len, list_all};
@@ -24,7 +24,7 @@ fn places(form: Form) -> usize
     }
 }
 
-// The text without one such byte at its end.
+// The text without its last byte, if that is `byte`.
 fn without_last(text: &[u8], byte: u8) -> &[u8]
     ensures { result.now ≡ without_last byte text.now }
 {
@@ -80,7 +80,7 @@ fn are_digits(text: &[u8]) -> bool
     text.iter().all(|byte| byte.is_ascii_digit())
 }
 
-// Digits on both sides, and at least one.
+// Whether both sides are digits, with at least one digit.
 fn are_right(whole: &[u8], part: &[u8]) -> bool
     ensures { result ≡ are_right whole.now part.now }
 {
@@ -90,7 +90,7 @@ fn are_right(whole: &[u8], part: &[u8]) -> bool
     are_digits(whole) && are_digits(part)
 }
 
-// Why a text says no value, where its whole part is no number that fits.
+// Why a text is refused whose whole part is no number that fits.
 #[cold]
 #[inline(never)]
 fn refusal(whole: &[u8], part: &[u8]) -> Errno
@@ -131,11 +131,11 @@ fn part_value(digits: &[u8], places: usize) -> u32
     value
 }
 
-/// The value that a text says: an optional `+` or `-`, digits, for `Micro` and `Nano` at most one `.`
-/// with digits after it, then at most one closing LF and at most one closing zero byte. At least one
-/// digit is there. Digits beyond the form's resolution are dropped; zero has no sign.
+/// Reads the value that a text says: an optional `+` or `-`, digits, for `Micro` and `Nano` at most one `.` with digits after
+/// it, then at most one closing LF and at most one closing zero byte. At least one digit is there. Digits beyond the form's
+/// resolution are dropped; zero has no sign.
 ///
-/// `EINVAL` comes for every other text, `ERANGE` for a valid one whose whole part is above 2,147,483,647.
+/// Returns `EINVAL` for every other text, and `ERANGE` for a valid one whose whole part is above 2,147,483,647.
 pub fn read_fixed(text: &[u8], form: Form) -> Result<Fixed, Errno>
     ensures value { result ≡ fixed_of form text.now }
     ensures sound { IfOk result IsFixed }
@@ -158,7 +158,7 @@ pub fn read_fixed(text: &[u8], form: Form) -> Result<Fixed, Errno>
     })
 }
 
-// Puts a point and the digits of a number after its first one at the end of a text.
+// Appends a point and the digits of a number after its first one.
 fn push_behind_first(text: &mut String, number: u32) -> Result<(), Mem>
     ensures { OnOk result (string_bytes text.new ≡ string_bytes text.old ++ 46 ∷ drop 1 (decimal number)) }
 {
@@ -167,7 +167,7 @@ fn push_behind_first(text: &mut String, number: u32) -> Result<(), Mem>
     Ok(())
 }
 
-// Puts the point and the digits after it at the end of a text. A leading 1 keeps the zeros that they begin with.
+// Appends the point and the digits after it. A leading 1 keeps the zeros that they begin with.
 #[tactic(auto, using(crate::proofs::FixedLemmas::micro_digits, crate::proofs::FixedLemmas::nano_digits))]
 fn push_part(text: &mut String, form: Form, part: u32) -> Result<(), Mem>
     ensures { OnOk result (string_bytes text.new ≡ string_bytes text.old ++ part_text form part) }
@@ -179,8 +179,7 @@ fn push_part(text: &mut String, form: Form, part: u32) -> Result<(), Mem>
     }
 }
 
-/// The one text of a value: a `-` where it is negative, its whole part, and for `Micro` and `Nano` a
-/// `.` and six or nine digits.
+/// The one text of a value: a `-` if it is negative, its whole part, and for `Micro` and `Nano` a `.` and six or nine digits.
 pub fn print_fixed(alloc: Global, v: &Fixed) -> Result<String, Mem>
     ensures text { IfOk result (λ text. string_bytes text ≡ printed_fixed v.now) }
     ensures read_back { IfOk result (λ text. IsFixed v.now → fixed_of v.now.form (string_bytes text) ≡ Ok v.now) }

@@ -3,7 +3,7 @@
 ghost use Rattle.std.specs.Prelude.{◌≡◌, pos};
 ghost use Rattle.iio_text.specs.Errno.{errno_number};
 
-/// Why a command is refused, as a number of the Linux kernel (`errno-base.h`, `errno.h`). Want of
+/// Why a command is refused, as a number of the Linux kernel (`errno-base.h`, `errno.h`). Lack of
 /// memory is [`Mem`](crate::Mem) and has no variant here.
 #[derive(Clone, Copy, Debug, PartialEq, Eq)]
 pub enum Errno {
@@ -23,13 +23,13 @@ pub enum Errno {
     EBUSY,
     /// No such device, or it is unplugged.
     ENODEV,
-    /// A wrong command, mask or value.
+    /// An invalid command, mask or value.
     EINVAL,
     /// A payload that is too large.
     EFBIG,
     /// No place is free.
     ENOSPC,
-    /// A value past its range.
+    /// A value out of its range.
     ERANGE,
     /// Not built.
     ENOSYS,

@@ -58,10 +58,10 @@ const PRINTED_LENS: [usize; 256] = [
     4, 4, 4, 4, 4, 4, 4, 4, 4, 4, 4, 4, 4, 4, 4, 4, 4, 4, 4, 4, 4, 4, 4, 4, 4, 4, 4, 4, 4, 4, 4, 4,
 ];
 
-// How many bytes are printed at a time. Room for all that they may take is made at the vector's end first.
+// How many bytes are printed at a time. Room for the most that they may take is made at the vector's end first.
 const CHUNK: usize = 500;
 
-// The most bytes of a short text: a number's, say. It has room of one length, which is made at once.
+// The most bytes of a short text, such as a number. Room of one length is made for it at once.
 const SHORT: usize = 16;
 
 // How many bytes are printed in one turn of a loop: those of a word.
@@ -76,7 +76,7 @@ fn is_plain(byte: u8) -> bool
     PRINTED_LENS[byte as usize] == 1
 }
 
-// Writes a byte as it is printed to the front of a room, and answers how many bytes that takes. Four are written.
+// Writes a byte as it is printed to the front of `room`, and returns how many bytes that takes. Four bytes are written.
 #[inline]
 fn put_escaped(byte: u8, room: &mut [u8]) -> usize
     requires { 4 ≤ length room.old }
@@ -88,7 +88,7 @@ fn put_escaped(byte: u8, room: &mut [u8]) -> usize
     PRINTED_LENS[at]
 }
 
-// The eight bytes from a place on as a word, of which the first is the lowest.
+// The eight bytes from a place on as a word, the first as its lowest byte.
 #[inline(always)]
 fn word_at(bytes: &[u8], place: usize) -> u64
     requires { place + GROUP ≤ length bytes.now }
@@ -98,7 +98,7 @@ fn word_at(bytes: &[u8], place: usize) -> u64
     word
 }
 
-// Writes bytes as they are printed to the front of a room, and answers how many bytes that takes.
+// Writes bytes as they are printed to the front of `room`, and returns how many bytes that takes.
 #[inline(always)]
 fn put_each_escaped(bytes: &[u8], room: &mut [u8]) -> usize
     requires { 4 * length bytes.now ≤ length room.old }
@@ -112,7 +112,7 @@ fn put_each_escaped(bytes: &[u8], room: &mut [u8]) -> usize
     len
 }
 
-// Writes a word's eight bytes, the lowest first, as they are printed to the front of a room. The compiler unrolls the loop.
+// Writes a word's eight bytes, the lowest first, as they are printed to the front of `room`. The compiler unrolls the loop.
 #[inline(always)]
 fn put_word_escaped(word: u64, room: &mut [u8]) -> usize
     requires { 4 * GROUP ≤ length room.old }
@@ -127,7 +127,7 @@ fn put_word_escaped(word: u64, room: &mut [u8]) -> usize
     len
 }
 
-// Writes many bytes as they are printed to the front of a room: whole words come first.
+// Writes many bytes as they are printed to the front of `room`: whole words first.
 fn put_all_escaped(bytes: &[u8], room: &mut [u8]) -> usize
     requires { 4 * length bytes.now ≤ length room.old }
     ensures within { result ≤ 4 * length bytes.now }
@@ -142,7 +142,7 @@ fn put_all_escaped(bytes: &[u8], room: &mut [u8]) -> usize
     len + put_each_escaped(&bytes[place..], &mut room[len..])
 }
 
-// Puts at most `SHORT` bytes at the end of a vector, as they are printed.
+// Appends at most `SHORT` bytes as they are printed.
 fn short_escape_to(out: &mut Vec<u8>, bytes: &[u8]) -> Result<(), Mem>
     requires { length bytes.now ≤ SHORT }
     ensures ok { OnOk result (out.new.items ≡ out.old.items ++ escaped bytes.now) }
@@ -155,7 +155,7 @@ fn short_escape_to(out: &mut Vec<u8>, bytes: &[u8]) -> Result<(), Mem>
     Ok(())
 }
 
-// Puts at most `CHUNK` bytes at the end of a vector, as they are printed.
+// Appends at most `CHUNK` bytes as they are printed.
 fn chunk_escape_to(out: &mut Vec<u8>, bytes: &[u8]) -> Result<(), Mem>
     requires { length bytes.now ≤ CHUNK }
     ensures ok { OnOk result (out.new.items ≡ out.old.items ++ escaped bytes.now) }
@@ -168,8 +168,7 @@ fn chunk_escape_to(out: &mut Vec<u8>, bytes: &[u8]) -> Result<(), Mem>
     Ok(())
 }
 
-/// Puts bytes at the end of a vector, as they are printed. After an `Err` the vector has gained the
-/// printed form of those that fitted.
+/// Appends bytes as they are printed. After an `Err` the printed form of those that fitted has been appended.
 pub fn escape_to(out: &mut Vec<u8>, bytes: &[u8]) -> Result<(), Mem>
     ensures ok { OnOk result (out.new.items ≡ out.old.items ++ escaped bytes.now) }
     ensures err { OnErr result ((k : ℕ) × (out.new.items ≡ out.old.items ++ escaped (take k bytes.now))) }
@@ -186,8 +185,8 @@ pub fn escape_to(out: &mut Vec<u8>, bytes: &[u8]) -> Result<(), Mem>
     Ok(())
 }
 
-/// Bytes in printable form: 0x0a as `\n`, `"` and `\` with a `\` before them, other bytes from 0x20 to 0x7e as they are, each
-/// other byte as `\x` and two hexadecimal digits in lower case.
+/// Returns bytes in printable form: 0x0a as `\n`, `"` and `\` with a `\` before them, other bytes from 0x20 to 0x7e as they
+/// are, each other byte as `\x` and two hexadecimal digits in lower case.
 pub fn escape(alloc: Global, bytes: &[u8]) -> Result<Vec<u8>, Mem>
     ensures text { IfOk result (λ v. v.items ≡ escaped bytes.now) }
     ensures read_back { IfOk result (λ v. unescaped v.items ≡ Ok bytes.now) }
@@ -212,7 +211,7 @@ fn hex_value(byte: u8) -> Option<u8>
     }
 }
 
-// The byte of two hexadecimal digits.
+// The byte of two hexadecimal digits, and how many bytes these take with the `x` before them.
 fn hex_pair(text: &[u8]) -> Option<(u8, usize)>
     ensures { result ≡ pair_of text.now }
 {
@@ -225,7 +224,7 @@ fn hex_pair(text: &[u8]) -> Option<(u8, usize)>
     }
 }
 
-// What stands first: the byte that is meant, and how many further bytes that takes.
+// What a text begins with: the byte that is meant, and how many further bytes that takes.
 fn piece(text: &[u8]) -> Option<(u8, usize)>
     ensures value { result ≡ piece_of text.now }
     ensures within { IfSome result (λ piece. piece.1 < length text.now) }
@@ -262,9 +261,9 @@ impl ByteTest for Special {
     }
 }
 
-/// The bytes that an escaped text means. `\n`, `\"` and `\\` stand for 0x0a, `"` and `\`; `\x` with two
-/// hexadecimal digits of either case for any byte; bytes from 0x20 to 0x7e other than `"` and `\` for
-/// themselves. No other byte and no other escape is allowed.
+/// Returns the bytes that an escaped text means. `\n`, `\"` and `\\` stand for 0x0a, `"` and `\`; `\x` with two hexadecimal
+/// digits of either case for any byte; bytes from 0x20 to 0x7e other than `"` and `\` for themselves. No other byte and no
+/// other escape is allowed.
 pub fn unescape(alloc: Global, text: &[u8]) -> Result<Vec<u8>, Unescape>
     ensures ok { IfOk result (λ v. unescaped text.now ≡ Ok v.items) }
     ensures err { IfErr result (λ e. Explains e (unescaped text.now)) }
@@ -272,7 +271,7 @@ pub fn unescape(alloc: Global, text: &[u8]) -> Result<Vec<u8>, Unescape>
     unescape_into(Vec::new(alloc), text)
 }
 
-/// The bytes that an escaped text means, as by `unescape`, in the memory of a vector. What was in it goes.
+/// Returns the bytes that an escaped text means, like `unescape`, but in the memory of `out`. What was in `out` is discarded.
 pub fn unescape_into(mut out: Vec<u8>, text: &[u8]) -> Result<Vec<u8>, Unescape>
     ensures ok { IfOk result (λ v. unescaped text.now ≡ Ok v.items) }
     ensures err { IfErr result (λ e. Explains e (unescaped text.now)) }
@@ -300,7 +299,8 @@ pub fn unescape_into(mut out: Vec<u8>, text: &[u8]) -> Result<Vec<u8>, Unescape>
     Ok(out)
 }
 
-/// What stands between a quote at the beginning of a text and another one at its end. None where there are no two such quotes.
+/// What stands between a quote at the beginning of a text and another one at its end. Returns `None` if there are no two such
+/// quotes.
 pub fn between_quotes(text: &[u8]) -> Option<&[u8]>
     ensures { option_copied result ≡ between_quotes text.now }
 {

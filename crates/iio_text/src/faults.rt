@@ -8,24 +8,24 @@ use iio_base::Mem;
 use std::alloc::{AllocError, AllocFailed};
 use thiserror::Error;
 
-/// Why a text isn't unescaped.
+/// Why a text can't be unescaped.
 #[derive(Clone, Copy, Debug, PartialEq, Eq, Error)]
 pub enum Unescape {
     /// The place of the first byte or escape that isn't allowed, counted from 0.
     #[error("no byte or escape that is allowed at {0}")]
     BadEscape(usize),
-    /// Want of memory.
+    /// Memory ran out.
     #[error("out of memory")]
     Mem,
 }
 
-/// Why a line isn't read, of a description or of a script.
+/// Why a line of a description or of a script can't be read.
 #[derive(Clone, Copy, Debug, PartialEq, Eq, Error)]
 pub enum LineFault {
     /// The first check that fails.
     #[error("refused: {}", .0.text())]
     Why(Why),
-    /// Want of memory.
+    /// Memory ran out.
     #[error("out of memory")]
     Mem,
 }

@@ -15,13 +15,13 @@ use std::simd::prelude::*;
 /// The most bytes of a line, without its LF.
 pub const MAX_LINE_BYTES: usize = 1_048_576;
 
-// How many bytes are looked at at once.
+// How many bytes are looked at at a time.
 const LANES: usize = 16;
 
-// How many bytes of a short line are looked at at once.
+// How many bytes of a short line are looked at at a time.
 const FEW: usize = 8;
 
-/// How many bytes of a text stand before its first LF; all of them where it has none.
+/// The number of bytes before the first LF of a text; all of them if it has none.
 pub fn line_len(text: &[u8]) -> usize
     ensures within { result ≤ length text.now }
     ensures value { result ≡ position_or_len is_line_end text.now }
@@ -51,8 +51,8 @@ impl ByteTest for LineEnd {
     }
 }
 
-/// Copies the bytes of a text before its first LF, or all where it has none, to the front of a room, and answers how many
-/// these are.
+/// Copies the bytes of a text before its first LF, or all if it has none, to the front of `room`, and returns how many these
+/// are.
 #[inline]
 pub fn copy_line(text: &[u8], room: &mut [u8]) -> usize
     requires { length text.now ≤ length room.old }
@@ -63,8 +63,8 @@ pub fn copy_line(text: &[u8], room: &mut [u8]) -> usize
     copy_before(&LineEnd, text, room)
 }
 
-/// Takes the first line, without its LF, off a text, and gives the text after it too. LF ends a line, and a last line
-/// without LF counts where it isn't empty. None comes exactly where there is no line.
+/// Takes the first line off a text. Returns it without its LF, with the text after it. LF ends a line, and a last line without
+/// LF counts if it isn't empty. Returns `None` exactly if there is no line.
 pub fn next_line(text: &[u8]) -> Option<(&[u8], &[u8])>
     ensures none { IsNone result ↔ (lines_of text.now ≡ []) }
     ensures found { IfSome result (λ l. lines_of text.now ≡ l.0.now ∷ lines_of l.1.now) }
@@ -80,7 +80,7 @@ pub fn next_line(text: &[u8]) -> Option<(&[u8], &[u8])>
     Some((&text[..len], &text[len + 1..]))
 }
 
-/// Whether a line is short enough: it has at most [`MAX_LINE_BYTES`] bytes.
+/// Whether a line is short enough, with at most [`MAX_LINE_BYTES`] bytes.
 pub fn fits_line(line: &[u8]) -> bool
     ensures { result ≡ fits_line line.now }
 {
@@ -122,7 +122,7 @@ fn few_are_printable(line: &[u8], place: usize) -> bool
     others.to_bitmask() == 0
 }
 
-// Whether each byte of a short line is printable ASCII, with the bytes looked at one by one.
+// Whether each byte of a short line is printable ASCII. Looks at the bytes one by one.
 #[inline(always)]
 fn each_is_printable(line: &[u8]) -> bool
     ensures { result ≡ list_all is_printable line.now }
@@ -134,8 +134,7 @@ fn each_is_printable(line: &[u8]) -> bool
     printable
 }
 
-// Whether each byte of a line is printable ASCII. It looks at many at once, and at some twice: at those that are
-// among the last of the line.
+// Whether each byte of a line is printable ASCII. Looks at many bytes at a time, and at some of the line's last ones twice.
 fn is_printable_text(line: &[u8]) -> bool
     ensures { result ≡ list_all is_printable line.now }
 {
@@ -156,10 +155,10 @@ fn is_printable_text(line: &[u8]) -> bool
     lanes_are_printable(line, last)
 }
 
-/// Takes the first word off a line of a description or of a script, without its LF, and gives the line after it too.
-/// None comes for a line that means nothing: a comment, whose first byte is `#`, and a line without a word. It is
-/// `long` where the line has more than [`MAX_LINE_BYTES`] bytes, and then, where it means anything, `text` where a byte
-/// of it is outside 0x20 to 0x7e.
+/// Takes the first word off a line of a description or of a script, without its LF, and returns it with the line after it.
+/// Returns `None` for a line that means nothing: a comment, whose first byte is `#`, or a line without a word. The line is
+/// refused as `long` if it has more than [`MAX_LINE_BYTES`] bytes, and then, if it means anything, as `text` if one of its
+/// bytes is outside 0x20 to 0x7e.
 #[inline]
 pub fn first_word(line: &[u8]) -> Result<Option<(&[u8], &[u8])>, Why>
     ensures refused { IfErr result (λ why. words_of_line line.now ≡ Err why) }

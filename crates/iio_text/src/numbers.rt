@@ -1,11 +1,11 @@
-//! Numbers from their texts.
+//! Reads numbers from their texts.
 
 ghost use Rattle.std.specs.Prelude.{◌≡◌, ◌-◌, ◌^◌, ◌<◌, ◌≤◌, ℕ, ℤ, negsuc, Some, decimal, FitsSigned};
 ghost use Rattle.std.specs.Int.{w64};
 ghost use Rattle.std.specs.Fmt.{signed_decimal};
 ghost use Rattle.iio_text.specs.Numbers.{value_up_to, plain_value, number_of, int_of};
 
-// The number that decimal digits write, where it is at most `limit`.
+// The number that decimal digits write, if it is at most `limit`.
 pub(crate) fn value_up_to(text: &[u8], limit: u64) -> Option<u64>
     requires { limit ≤ 9223372036854775808 }
     ensures { result ≡ value_up_to limit text.now }
@@ -24,7 +24,7 @@ pub(crate) fn value_up_to(text: &[u8], limit: u64) -> Option<u64>
     if value <= limit { Some(value) } else { None }
 }
 
-// The number that `0`, or digits without a leading zero, write, where it is at most `limit`.
+// The number that `0`, or digits without a leading zero, write, if it is at most `limit`.
 fn plain_value(text: &[u8], limit: u64) -> Option<u64>
     requires { limit ≤ 9223372036854775808 }
     ensures { result ≡ plain_value limit text.now }
@@ -46,8 +46,8 @@ fn negated(value: u64) -> i64
     -((value - 1) as i64) - 1
 }
 
-/// The number of a command: one to ten decimal digits that write a number up to 4,294,967,295.
-/// Leading zeros are allowed. None for every other text.
+/// Reads the number of a command: one to ten decimal digits that write a number up to 4,294,967,295. Leading zeros are allowed.
+/// Returns `None` for every other text.
 pub fn read_number(text: &[u8]) -> Option<u32>
     ensures value { result ≡ number_of text.now }
     // A printed number is read back.
@@ -62,8 +62,8 @@ pub fn read_number(text: &[u8]) -> Option<u32>
     }
 }
 
-/// The integer of a description or a script: `0`, or an optional `-` and decimal digits without a
-/// leading zero, within 64 signed bits. None for every other text, `-0` among them.
+/// Reads the integer of a description or a script: `0`, or an optional `-` and decimal digits without a leading zero, within 64
+/// signed bits. Returns `None` for every other text, `-0` among them.
 pub fn read_int(text: &[u8]) -> Option<i64>
     ensures value { result ≡ int_of text.now }
     // A printed integer is read back.

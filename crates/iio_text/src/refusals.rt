@@ -9,33 +9,33 @@ ghost use Rattle.iio_text.specs.Why.{why_text};
 pub enum Why {
     /// The line is too long.
     Long,
-    /// A byte that isn't allowed, or a wrong quoted text.
+    /// A byte that isn't allowed, or an invalid quoted text.
     Text,
     /// An unknown first word.
     Word,
     /// A line that may not stand here.
     Order,
-    /// A wrong number of words.
+    /// The wrong number of words.
     Count,
-    /// No name.
+    /// Not a name.
     Name,
-    /// A name that is given already.
+    /// A name that is taken already.
     Taken,
     /// No such trigger.
     Trigger,
     /// No such device.
     Device,
-    /// No scan type; the word is `type`.
+    /// Not a scan type; the word is `type`.
     BadType,
-    /// No mask that can be listed.
+    /// Not a mask that can be listed.
     Mask,
     /// A moment that isn't after the one before.
     Moment,
-    /// No number of the form that is asked for.
+    /// Not a number of the form that is required.
     Number,
-    /// No driver that is free.
+    /// Not a free driver.
     Driver,
-    /// No attribute that can be set so.
+    /// Not an attribute that can be set like this.
     Attr,
     /// One more than a limit allows.
     Limit,
@@ -70,7 +70,7 @@ impl Why {
     }
 }
 
-/// Goes on where the condition holds, and is refused else.
+/// Returns `Ok` if the condition holds, and `Err(why)` otherwise.
 pub fn ensure(holds: bool, why: Why) -> Result<(), Why>
     ensures { result ≡ ensure holds why }
 {

@@ -1,4 +1,4 @@
-//! The first byte of a text that passes a test, with sixteen bytes looked at at once.
+//! Finds the first byte of a text that passes a test, sixteen bytes at a time.
 
 ghost use Rattle.std.specs.Prelude.{◌≡◌, ◌+◌, ◌≤◌, ℕ, Bool, map, length, take};
 ghost use Rattle.std.specs.List.{position_or_len};
@@ -7,7 +7,7 @@ ghost use Rattle.iio_text.specs.Runs.{first_set};
 
 use std::simd::prelude::*;
 
-// How many bytes are looked at at once.
+// How many bytes are looked at at a time.
 const LANES: usize = 16;
 
 /// A test of bytes.
@@ -23,7 +23,7 @@ pub(crate) trait ByteTest {
         ensures { result ≡ mask_l (map (passes self.now) (chunk place LANES text.now)) };
 }
 
-/// The place of the lowest bit of a mask of sixteen, or sixteen where none is set.
+/// The place of the lowest bit of a mask of sixteen bits, or sixteen if none is set.
 #[inline(always)]
 pub(crate) fn first_set(mask: u64) -> usize
     ensures { result ≡ first_set mask }
@@ -35,7 +35,8 @@ pub(crate) fn first_set(mask: u64) -> usize
     }
 }
 
-/// Copies the bytes of a text before the first that passes, or all, to the front of a room, and answers how many these are.
+/// Copies the bytes of a text before the first that passes, or all if none passes, to the front of `room`, and returns how many
+/// these are.
 #[inline(always)]
 pub(crate) fn copy_before<T: ByteTest>(test: &T, text: &[u8], room: &mut [u8]) -> usize
     requires { length text.now ≤ length room.old }

@@ -14,7 +14,7 @@ pub enum Form {
 /// A value with its sign, its whole part, and what stands after the point in units of the form: of
 /// 1,000,000 for `Micro`, of 1,000,000,000 for `Nano`, and 0 for `Int`.
 ///
-/// `negative` is false where both parts are 0; the whole part is at most 2,147,483,647.
+/// `negative` is false if both parts are 0; the whole part is at most 2,147,483,647.
 #[derive(Clone, Copy, Debug, PartialEq, Eq)]
 pub struct Fixed {
     pub negative: bool,

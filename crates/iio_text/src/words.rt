@@ -5,7 +5,7 @@ ghost use Rattle.std.specs.List.{prefix_len, position_or_len};
 ghost use Rattle.std.specs.Str.{bytes_eq};
 ghost use Rattle.iio_text.specs.Words.{is_space, words_of, IsFirstWord, one_of, two_of, three_of, from_word};
 
-// How many spaces the text begins with.
+// The number of spaces that the text begins with.
 fn spaces_len(text: &[u8]) -> usize
     ensures within { result ≤ length text.now }
     ensures value { result ≡ prefix_len is_space text.now }
@@ -18,7 +18,7 @@ fn spaces_len(text: &[u8]) -> usize
     text.len()
 }
 
-// How many bytes stand before the first space.
+// The number of bytes before the first space.
 fn word_len(text: &[u8]) -> usize
     ensures within { result ≤ length text.now }
     ensures value { result ≡ position_or_len is_space text.now }
@@ -31,9 +31,9 @@ fn word_len(text: &[u8]) -> usize
     text.len()
 }
 
-/// The first word of the text, and the text after it. None where the text has no word.
+/// Returns the first word of the text, and the text after it; `None` if the text has no word.
 ///
-/// A word is a longest run of bytes that are no spaces; spaces at both ends don't count.
+/// A word is a longest run of bytes other than spaces; spaces at both ends don't count.
 pub fn next_word(text: &[u8]) -> Option<(&[u8], &[u8])>
     ensures none { IsNone result ↔ (words_of is_space text.now ≡ []) }
     ensures found { IfSome result (λ r. IsFirstWord is_space text.now r.0.now r.1.now) }
@@ -45,7 +45,7 @@ pub fn next_word(text: &[u8]) -> Option<(&[u8], &[u8])>
     Some(begun.split_at(word_len(begun)))
 }
 
-/// The word of a text that has one word, parted by spaces. None exactly where it has another number of words.
+/// The word of a text that has one word. Returns `None` exactly if it has another number of words. Spaces separate words.
 pub fn one_word(text: &[u8]) -> Option<&[u8]>
     ensures { option_map (λ w. w.now) result ≡ one_of (words_of is_space text.now) }
 {
@@ -56,7 +56,7 @@ pub fn one_word(text: &[u8]) -> Option<&[u8]>
     Some(word)
 }
 
-/// The words of a text that has two. None exactly where it has another number of words.
+/// The words of a text that has two words. Returns `None` exactly if it has another number of words.
 pub fn two_words(text: &[u8]) -> Option<(&[u8], &[u8])>
     ensures { option_map (λ w. (w.0.now, w.1.now)) result ≡ two_of (words_of is_space text.now) }
 {
@@ -65,7 +65,7 @@ pub fn two_words(text: &[u8]) -> Option<(&[u8], &[u8])>
     Some((first, second))
 }
 
-/// The words of a text that has three. None exactly where it has another number of words.
+/// The words of a text that has three words. Returns `None` exactly if it has another number of words.
 pub fn three_words(text: &[u8]) -> Option<(&[u8], &[u8], &[u8])>
     ensures { option_map (λ w. (w.0.now, w.1.now, w.2.now)) result ≡ three_of (words_of is_space text.now) }
 {
@@ -81,7 +81,7 @@ fn begins_word(after_space: bool, byte: u8) -> bool
     after_space && byte != b' '
 }
 
-/// How many words a text has, parted by spaces.
+/// The number of words in a text, separated by spaces.
 pub fn count_words(text: &[u8]) -> usize
     ensures { result ≡ length (words_of is_space text.now) }
 {
@@ -94,7 +94,7 @@ pub fn count_words(text: &[u8]) -> usize
     count
 }
 
-/// A text from its first word on: without the spaces that it begins with.
+/// The text from its first word on, without the spaces that it begins with.
 pub fn from_word(text: &[u8]) -> &[u8]
     ensures { result.now ≡ from_word text.now }
 {
@@ -105,7 +105,8 @@ pub fn from_word(text: &[u8]) -> &[u8]
     rest
 }
 
-/// Whether a word is that one. Byte by byte, since words are short: where the wanted one is known, no loop is left.
+/// Whether a word is `wanted`. Compares byte by byte, since words are short: if `wanted` is known at compile time, no loop is
+/// left.
 #[inline(always)]
 pub fn is_word(word: &[u8], wanted: &[u8]) -> bool
     ensures { result ≡ bytes_eq word.now wanted.now }

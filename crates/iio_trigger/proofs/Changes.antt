@@ -1,4 +1,4 @@
--- What a trigger's calls make of its rows, given where the device's row stands.
+-- What a trigger's calls make of its rows, by where the device's row is.
 use Rattle.std.proofs.Common.{◌≡◌, ℕ, ◌<◌, true, false, cond, eqb, List, length, get_or, Some, None, refl, sym, ap, ◌∙◌, subst, append-nil, arith}
 use Rattle.std.specs.List.{Contains, insert, remove, refill}
 use Rattle.std.proofs.Math.ListN.{set}
@@ -10,7 +10,7 @@ use Rattle.iio_trigger.specs.declared.rows.Place.{Place}
 use Rattle.iio_trigger.specs.declared.rows.Entry.{Entry}
 use Rattle.iio_trigger.proofs.Ranks.{InOrder-with_place, InOrder-set, map-others, filter-others, any-others, find-others, any-at, map-at, filter-at, find-at, with_place-at, with_place-new, IsOther-get_or, at_rank}
 
--- one row written through a loan of all
+-- one row is written through a loan of all
 pub refill-set : {X : Type 0} (xs ys : List X) (i : ℕ) (y : X) → ys ≡ xs → refill (length xs) xs (set ys i y) ≡ set xs i y
 refill-set xs ys i y e =
     rw (e, length-set xs i y, drop_all (length xs) xs (omega arith), append-nil)
@@ -125,7 +125,7 @@ module _ (dev : ℕ) (es : List Entry) where
       pub InOrder-set_entry : InOrder entry_dev 0 (set es i (record (get_or es i d) { in_hand = true }))
       InOrder-set_entry = InOrder-set entry_dev 0 i es (record (get_or es i d) { in_hand = true }) d o refl
 
-      -- the one entry of the device is the one that stands there
+      -- the only entry of the device is the one that is there
       pub Contains-at : (e : Entry) → e.dev ≡ dev → Contains es e → get_or es i d ≡ e
       Contains-at e is at =
           let here = at_rank entry_dev dev 0 es at.0 e o at.1 (ap entry_dev at.2 ∙ is) ∙ s.ranked in

@@ -1,4 +1,4 @@
--- A device among rows in the order of devices: at its rank if at all, and nowhere else.
+-- A device among rows in the order of devices: its row is at its rank, if there is one, and nowhere else.
 use Rattle.std.proofs.Common.{◌≡◌, ℕ, zero, suc, ◌+◌, ◌≤◌, ◌<◌, Bool, true, false, not, cond, eqb, ltb, List, [], ◌∷◌, map, filter, length, get_or, Some, None, refl, sym, ap, ◌∙◌, ⊎_elim, arith}
 use Rattle.std.specs.List.{list_any, find, insert, remove}
 use Rattle.std.proofs.Math.ListN.{set}
@@ -37,7 +37,7 @@ module _ {X : Type 0} (dev_of : X → ℕ) where
     others_later low [] o lt = tt
     others_later low (x ∷ xs) o lt = (λ e. omega (arith, e, o.0), others_later (dev_of x + 1) xs o.1 (omega (arith, o.0)))
 
-    -- where the row at the rank isn't the device's, none is
+    -- if the row at the rank isn't the device's, no row is
     pub all_others : (low : ℕ) (xs : List X) (d : X) → InOrder dev_of low xs
         → (rank dev_of dev xs < length xs → IsOther dev_of dev (get_or xs (rank dev_of dev xs) d)) → AllOther dev_of dev xs
     all_others low [] d o free = tt
@@ -65,7 +65,7 @@ module _ {X : Type 0} (dev_of : X → ℕ) where
     find-others p [] others free = refl
     find-others p (x ∷ xs) others free = rw (free x others.0) (find-others p xs others.1 free)
 
-    -- what a device's row at its rank makes of the whole
+    -- what a device's row at its rank makes of the whole list
     pub any-at : (xs : List X) (d : X) → rank dev_of dev xs < length xs → dev_of (get_or xs (rank dev_of dev xs) d) ≡ dev
         → list_any (λ x. eqb (dev_of x) dev) xs ≡ true
     any-at [] d within same = absurd (omega (arith, within))
@@ -114,7 +114,7 @@ module _ {X : Type 0} (dev_of : X → ℕ) where
         (cases_lt (dev_of x) dev)
 
 module _ {X : Type 0} (dev_of : X → ℕ) (dev i : ℕ) (xs : List X) (d : X) where
-  -- what a look at the rank says
+  -- what a look at the rank tells
   pub stands : i ≡ rank dev_of dev xs → i < length xs → dev_of (get_or xs i d) ≡ dev → StandsAt dev_of dev xs i
   stands is within same = record {
     within = within;
@@ -143,7 +143,7 @@ with_place-at dev n (p ∷ ps) d within same =
     rw (e, le-ltb p.dev dev ge, eq-eqb p.dev dev same'))
     (cases_lt p.dev dev)
 
--- a device that holds none gets one more, at its rank
+-- a device that holds no place gets another one, at its rank
 pub with_place-new : (dev n : ℕ) (ps : List Place) (d : Place)
     → (rank place_dev dev ps < length ps → IsOther place_dev dev (get_or ps (rank place_dev dev ps) d))
     → with_place dev n ps ≡ insert ps (rank place_dev dev ps) (record { dev = dev; attachment = n })
@@ -179,7 +179,7 @@ module _ {X : Type 0} (dev_of : X → ℕ) (dev : ℕ) where
   IsOther-get_or (x ∷ xs) zero d others within = others.0
   IsOther-get_or (x ∷ xs) (suc k) d others within = IsOther-get_or xs k d others.1 (omega (arith, within))
 
-  -- rows in order have a device once
+  -- rows in order have a device at most once
   pub at_rank : (low : ℕ) (xs : List X) (k : ℕ) (d : X) → InOrder dev_of low xs → k < length xs → dev_of (get_or xs k d) ≡ dev
       → k ≡ rank dev_of dev xs
   at_rank low [] k d o within same = absurd (omega (arith, within))

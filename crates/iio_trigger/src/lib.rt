@@ -1,8 +1,8 @@
 //! A trigger: its places, the entries that its polls made, and the polls that it missed.
 //!
-//! A device takes a place, under the number of its attachment. A poll makes one entry for each device that holds a place,
-//! and is missed while an entry is outstanding. An entry stays outstanding until it is done, also when its device has
-//! left its place (kernel, driver-api/iio, "Triggers"). Places and the count of missed polls are this project's own.
+//! A device takes a place, under the number of its attachment. A poll makes one entry for each device that holds a place, and
+//! is missed while an entry is outstanding. An entry stays outstanding until it is done, even if its device has left its place
+//! meanwhile (kernel, driver-api/iio, "Triggers"). Places and the count of missed polls are this project's own.
 #![tactic(auto)]
 
 ghost use Rattle.std.specs.Prelude.{◌≡◌, ◌≤◌, ◌<◌, ◌↔◌, [], false, true, length, IsTrue, IsErr, OnOk, OnErr, Contains};
@@ -21,7 +21,7 @@ use std::error::Error;
 use std::fmt;
 use std::marker::Model;
 
-/// All places are taken, by other devices.
+/// All places are taken by other devices.
 #[derive(Clone, Copy, Debug, PartialEq, Eq, Hash)]
 pub struct NoPlace;
 
@@ -36,13 +36,13 @@ impl Error for NoPlace {}
 /// What became of a poll.
 #[derive(Clone, Copy, Debug, PartialEq, Eq, Hash)]
 pub enum Polled {
-    /// It made this number of entries.
+    /// The poll made this number of entries.
     Accepted(u32),
-    /// An entry was outstanding. This is the number of polls that were missed until now, with this one.
+    /// An entry was outstanding. This is the number of polls that have been missed, with this one.
     Missed(u64),
 }
 
-/// An entry in hand. It can't be dropped: `Trigger::done` takes it.
+/// An entry that was handed out. It can't be dropped: `Trigger::done` takes it.
 #[derive(Debug)]
 pub struct Due {
     entry: Entry,
@@ -79,7 +79,7 @@ impl Due {
     }
 }
 
-/// A trigger of at most `MAX_PLACES` places. None of its calls takes memory.
+/// A trigger with at most `MAX_PLACES` places. None of its calls allocates memory.
 #[derive(Drop)]
 pub struct Trigger {
     places: u8,
@@ -103,7 +103,7 @@ impl Model for Trigger {
 
 impl Trigger {
     ghost use Rattle.iio_trigger.specs.Trigger.{IsSound, first_dev, holds_place, with_place, without_place, due_of, with_in_hand, without_entry, Polls};
-    /// A trigger with this number of places. None is taken, no entry is outstanding, no poll was missed.
+    /// Makes a trigger with this number of places. No place is taken, no entry is outstanding, no poll was missed.
     pub fn new(places: u8) -> Trigger
         requires some { 1 ≤ places }
         requires most { places ≤ MAX_PLACES }
@@ -122,7 +122,8 @@ impl Trigger {
         }
     }
 
-    /// Gives the device a place under the number of its attachment. A place that it has already gets the new number.
+    /// Gives the device a place under the number of its attachment. If it already has a place, that gets the new number.
+    /// `NoPlace` exactly if it has none and all are taken.
     pub fn attach(&mut self, dev: u32, attachment: u64) -> Result<(), NoPlace>
         ensures refused { IsErr result
             ↔ ((holds_place dev self.old.attached ≡ false) × (length self.old.attached ≡ self.old.places)) }
@@ -160,7 +161,7 @@ impl Trigger {
         self.attached.iter().any(|place| place.dev == dev)
     }
 
-    /// Frees the device's place, and says whether it held one. Its entry stays outstanding.
+    /// Frees the device's place, and returns whether it held one. Its entry stays outstanding.
     pub fn detach(&mut self, dev: u32) -> bool
         ensures held { result ≡ holds_place dev self.old.attached }
         ensures after { self.new ≡ record self.old {
@@ -176,7 +177,8 @@ impl Trigger {
         }
     }
 
-    /// Polls at a moment, in nanoseconds.
+    /// Polls the trigger at the moment `t`, in nanoseconds: makes an entry for each device that holds a place, or counts a
+    /// missed poll if an entry is outstanding.
     pub fn poll(&mut self, t: i64) -> Polled
         ensures { Polls self.old t result self.new }
     {
@@ -188,7 +190,7 @@ impl Trigger {
         Polled::Accepted(self.attached.len() as u32)
     }
 
-    /// The device of the first entry that is outstanding, in the order of devices. `None` comes exactly where none is.
+    /// Returns the device of the first outstanding entry, in the order of devices; `None` exactly if there is none.
     pub fn first(&self) -> Option<u32>
         ensures { result ≡ first_dev self.now.outstanding }
     {
@@ -198,8 +200,7 @@ impl Trigger {
         Some(self.entries[0].dev)
     }
 
-    /// Hands out the device's entry, where it has one that is in no hand. The entry stays
-    /// outstanding.
+    /// Hands out the device's entry, if it has one that isn't in hand already. The entry stays outstanding.
     pub fn due(&mut self, dev: u32) -> Option<Due>
         ensures due { result ≡ due_of dev self.old.outstanding }
         ensures after { self.new ≡ record self.old {
@@ -215,7 +216,7 @@ impl Trigger {
         Some(Due { entry })
     }
 
-    /// Takes off the entry that was handed out, and says whether it was there, in hand.
+    /// Removes the entry that was handed out, and returns whether it was there, in hand.
     pub fn done(&mut self, due: Due) -> bool
         ensures found { IsTrue result ↔ Contains self.old.outstanding (record {
           dev = due.dev;

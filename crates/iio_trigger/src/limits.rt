@@ -1,4 +1,4 @@
-//! How many devices a trigger may serve.
+//! The number of devices that a trigger may serve.
 
-/// The most places of a trigger.
+/// The largest number of places of a trigger.
 pub const MAX_PLACES: usize = 8;

@@ -1,4 +1,4 @@
-//! Where a device stands among rows that are in the order of devices.
+//! The place of a device among rows that are in the order of devices.
 
 ghost use Rattle.std.specs.Prelude.{◌≡◌, ◌≤◌, [], length, MatchOption, MatchResult};
 ghost use Rattle.iio_trigger.specs.declared.limits.TheConstants.{MAX_PLACES};
@@ -9,7 +9,7 @@ use crate::limits::MAX_PLACES;
 use crate::rows::{Entry, Place};
 use arrayvec::ArrayVec;
 
-// Where the device's place stands, or else where it would stand.
+// The index of the device's place, or else where it would be inserted.
 pub fn find_place(places: &[Place], dev: u32) -> Result<usize, usize>
     requires { InOrder place_dev 0 places.now }
     ensures { MatchResult result
@@ -24,7 +24,7 @@ pub fn find_place(places: &[Place], dev: u32) -> Result<usize, usize>
     }
 }
 
-// Where the device's entry stands, if it has one.
+// The index of the device's entry, if it has one.
 pub fn find_entry(entries: &[Entry], dev: u32) -> Option<usize>
     requires { InOrder entry_dev 0 entries.now }
     ensures { MatchOption result
@@ -39,21 +39,21 @@ pub fn find_entry(entries: &[Entry], dev: u32) -> Option<usize>
     }
 }
 
-// How many places are of devices before this one.
+// The number of places of devices before this one.
 fn place_index(places: &[Place], dev: u32) -> usize
     ensures { result ≡ rank place_dev dev places.now }
 {
     places.iter().take_while(|place| place.dev < dev).count()
 }
 
-// How many entries are.
+// The number of entries of devices before this one.
 fn entry_index(entries: &[Entry], dev: u32) -> usize
     ensures { result ≡ rank entry_dev dev entries.now }
 {
     entries.iter().take_while(|entry| entry.dev < dev).count()
 }
 
-// Makes an entry for each place, where none is outstanding.
+// Makes an entry for each place; none may be outstanding.
 pub fn add_entries(entries: &mut ArrayVec<Entry, MAX_PLACES>, places: &[Place], t: i64)
     requires none { entries.old.items ≡ [] }
     requires room { length places.now ≤ MAX_PLACES }

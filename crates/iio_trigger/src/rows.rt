@@ -7,8 +7,8 @@ pub struct Place {
     pub attachment: u64,
 }
 
-/// An outstanding entry: the device, its attachment when the poll came, the moment of the poll in
-/// nanoseconds, and whether someone has the entry in hand.
+/// An outstanding entry: the device, its attachment when the poll came, the moment of the poll in nanoseconds, and whether the
+/// entry is in hand, which means that it was handed out and isn't done yet.
 #[derive(Clone, Copy, Debug, Default, PartialEq, Eq, Hash)]
 pub struct Entry {
     pub dev: u32,

@@ -1,4 +1,4 @@
--- Both worlds of an input in the grammar.
+-- Both worlds of an input that keeps to the grammar.
 use Rattle.std.proofs.Common.{◌≡◌, ℕ, Bool, true, false, List, [], ◌++◌, map, Option, Some, None, refl, sym, ap, ◌∙◌}
 use Rattle.iio_text.specs.declared.refusals.Why.TheVariants.{Bystander}
 use Rattle.iio_sensor.specs.Driver.{Driver}

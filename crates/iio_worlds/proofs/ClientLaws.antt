@@ -1,4 +1,4 @@
--- Whether a step meets the rules is told by the seats of the connections that are there.
+-- The seats of the connections that are there decide whether a step meets the rules.
 use Rattle.std.proofs.Common.{◌≡◌, ℕ, zero, suc, Ok, ◌==◌, ◌&&◌, ◌||◌, not, Bool, true, false, List, [], ◌∷◌, map, Option, Some, None, option_map, is_some, slice_get, cond, refl, sym, ap, ◌∙◌, subst, arith}
 use Rattle.std.specs.Option.{option_map_or}
 use Rattle.std.specs.Str.{bytes_eq}

@@ -1,4 +1,4 @@
--- An input less the lines of other connections' steps says the steps less those.
+-- An input without the lines of other connections' steps has the same steps without those.
 use Rattle.std.proofs.Common.{◌≡◌, ◌⊎◌, inl, inr, ℕ, ◌+◌, ◌||◌, nat_lt, not, Bool, true, false, List, [], ◌∷◌, ◌++◌, Option, Some, None, Result, Ok, Err, cond, refl, sym, ap, ◌∙◌, subst}
 use Rattle.std.specs.Str.{bytes_eq}
 use Rattle.std.proofs.lemmas.Slice.Eq.{bytes_eq-Decides}
@@ -16,7 +16,7 @@ use Rattle.iio_worlds.proofs.Alone.{append_nil}
 AreOwn : List ℕ → List (List ℕ) → Type 0
 AreOwn a names = (names ≡ []) ⊎ (names ≡ a ∷ [])
 
--- a step that isn't others' keeps to the number of names, and leaves no other name
+-- a step that isn't another connection's keeps to the number of names, and adds no other name
 OwnNames : List ℕ → List (List ℕ) → Option Step → Type 0
 OwnNames a names step = (keeps_names names step ≡ true) × AreOwn a (names_after names step)
 
@@ -62,7 +62,7 @@ script_by desc names n lines o = elim o [
   | Ok step ↦ first_step step (script_from desc Finished (names_after names step) (n + 1) lines)
 ]
 
--- a script that ends, and its steps less those of others
+-- a script that ends, and its steps without those of others
 abbrev IsWithout : List ℕ → Script → Script → Type 0
 IsWithout a own whole = (own.ending ≡ Finished) × (own.steps ≡ without_others a whole.steps)
 
@@ -86,7 +86,7 @@ own_first a None own whole is are = are
 own_first a (Some step) own whole is are =
     (are.0, ap (λ ts. step ∷ ts) are.1 ∙ ap (λ b. cond b (without_others a whole.steps) (step ∷ without_others a whole.steps)) (sym is))
 
--- a line that is kept says its step
+-- a line that is kept gives its step
 kept_line : (desc : Description) (a : List ℕ) (names : List (List ℕ)) (n : ℕ) (line : List ℕ) (lines : List (List ℕ)) (step : Option Step)
     → step_of desc line ≡ Ok step → keeps_names names step ≡ true
     → script_from desc Finished names n (line ∷ lines) ≡ first_step step (script_from desc Finished (names_after names step) (n + 1) lines)

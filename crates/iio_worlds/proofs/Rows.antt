@@ -56,7 +56,7 @@ beside_without = refl
 
 -- ---- against the rules: the texts with and without B differ
 
--- A ends its membership beside B: the poll finds B's
+-- A ends its membership beside B: the poll finds that of B
 abbrev parting : List Step
 parting = a (codes "OPEN a 1 00000001") ∷ b (codes "OPEN a 1 00000001") ∷ a (codes "CLOSE a") ∷ fire 1 ∷ []
 
@@ -76,7 +76,7 @@ losing_differs : (first_offence one A [] losing ≡ Some 2)
 unfolding digits
 losing_differs = (refl, refl, refl)
 
--- B opens what A hasn't open: no listed mask has both
+-- B opens what A doesn't have open: no listed mask has both
 abbrev opening : List Step
 opening = b (codes "OPEN a 1 00000002") ∷ a (codes "OPEN a 1 00000001") ∷ []
 
@@ -95,7 +95,7 @@ writing_differs : (first_offence one A [] writing ≡ Some 1)
 unfolding digits
 writing_differs = (refl, refl, refl)
 
--- B holds the events of what A has open
+-- B holds the events of a device that A has open
 abbrev holding : List Step
 holding = a (codes "OPEN a 1 00000001") ∷ b (codes "EVOPEN a") ∷ a (codes "EVOPEN a") ∷ []
 
@@ -104,7 +104,7 @@ holding_differs : (first_offence one A [] holding ≡ Some 1) × (transcript_kep
 unfolding digits
 holding_differs = (refl, refl, refl)
 
--- B takes off the trigger of what A hasn't open
+-- B removes the trigger of a device that A doesn't have open
 abbrev retriggering : List Step
 retriggering = b (codes "SETTRIG a") ∷ a (codes "OPEN a 1 00000001") ∷ []
 
@@ -113,7 +113,7 @@ retriggering_differs : (first_offence one A [] retriggering ≡ Some 0) × (tran
 unfolding digits
 retriggering_differs = (refl, refl, refl)
 
--- A exchanges its mask beside B: the refusal for the union depends on B's
+-- A changes its mask beside B: the refusal for the union depends on B's mask
 abbrev remasking : List Step
 remasking = a (codes "OPEN a 1 00000001") ∷ b (codes "OPEN a 1 00000001") ∷ a (codes "REMASK a 00000002") ∷ []
 
@@ -122,7 +122,7 @@ remasking_differs : (first_offence listed A [] remasking ≡ Some 2) × (transcr
 unfolding digits
 remasking_differs = (refl, refl, refl)
 
--- B may exchange its own beside A
+-- B may change its own mask beside A
 abbrev remasked : List Step
 remasked = a (codes "OPEN a 1 00000001") ∷ b (codes "OPEN a 1 00000001") ∷ b (codes "REMASK a 00000002") ∷ fire 1 ∷ a (codes "READBUF a 1") ∷ []
 
@@ -142,7 +142,7 @@ all_kinds = record one {
   };
 }
 
--- an inner member is nobody's: A may leave its averaging device beside B, and B's place at the base is seen by nobody
+-- an inner member belongs to nobody: A may leave its averaging device beside B, and nobody sees B's place at the base
 abbrev averaging : List Step
 averaging =
     a (codes "OPEN a 1 00000001") ∷ b (codes "OPEN a 1 00000002") ∷ a (codes "OPEN m 1 00000001") ∷ fire 1 ∷ fire 2 ∷ a (codes "READBUF m 1")
@@ -156,7 +156,7 @@ averaging_meets : (only_bystanders all_kinds A (with_steps all_kinds [] averagin
 unfolding digits
 averaging_meets = (refl, refl, refl)
 
--- nobody else may name them, whoever has them open
+-- no other connection may name them, whoever has them open
 naming_offends : (first_offence all_kinds A [] (a (codes "OPEN m 1 00000001") ∷ b (codes "READ m name") ∷ []) ≡ Some 1)
     × (first_offence all_kinds A [] (a (codes "OPEN o 1 00000001") ∷ b (codes "GETTRIG o") ∷ []) ≡ Some 1)
     × (first_offence all_kinds A [] (a (codes "OPEN o 1 00000001") ∷ b (codes "WRITEBUF o 0") ∷ []) ≡ Some 1)
@@ -164,7 +164,7 @@ naming_offends : (first_offence all_kinds A [] (a (codes "OPEN m 1 00000001") �
 unfolding digits
 naming_offends = (refl, refl, refl, refl)
 
--- an output device that another has open is taken
+-- an output device that another connection has open is taken
 taking : List Step
 taking = b (codes "OPEN o 1 00000001") ∷ a (codes "OPEN o 1 00000001") ∷ []
 

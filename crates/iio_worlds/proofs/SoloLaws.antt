@@ -1,4 +1,4 @@
--- Both texts of a connection's worlds are what one run keeps.
+-- Both texts of a connection's worlds are the one that one run keeps.
 use Rattle.std.proofs.Common.{◌≡◌, ℕ, suc, Bool, true, false, List, [], ◌∷◌, ◌++◌, map, length, Option, Some, None, option_map, Result, Ok, Err, cond, refl, sym, ap, ◌∙◌}
 use Rattle.iio_text.specs.declared.refusals.Why.TheVariants.{Bystander}
 use Rattle.iio_sensor.specs.Driver.{Driver}
@@ -141,7 +141,7 @@ pub run_keeps : (s : Setup) (a : List ℕ) (ts : List Numbered) → kept_of_step
 unfolding kept_after
 run_keeps s a ts = run_after s a [] ts refl
 
--- ---- a bad line comes first
+-- ---- a bad line counts first
 
 bad_script : (s : Setup) (a : List ℕ) (ts : List Numbered) (ending : Ending) → (ending ≡ Finished → ⊥) → solo_of_script s a ts ending ≡ only_ending ending
 bad_script s a ts Finished bad = absurd (bad refl)

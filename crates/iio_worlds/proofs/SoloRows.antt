@@ -10,7 +10,7 @@ abbrev adc : List ℕ
 adc =
     codes "trigger t0 2\ndevice adc0 t0\nchannel voltage0 le:u12/16>>4\nchannel voltage1 le:u12/16>>4\nchannel accel_x be:s16/16>>0\ntimestamp\nrow 0 1 2 -3\n"
 
--- with one device more
+-- with one more device
 abbrev adcs : List ℕ
 adcs = adc ++ codes "device adc1 t0\nchannel voltage0 le:u8/8>>0\n"
 
@@ -31,7 +31,7 @@ two_texts : solo A adc (codes
 unfolding digits
 two_texts = refl
 
--- B opens what A hasn't open
+-- B opens what A doesn't have open
 opening_offends : solo A adcs (codes "A \"OPEN adc0 1 00000005\\n\"\nB \"OPEN adc1 1 00000001\\n\"\n") ≡ only_ending (Refused 12 Bystander)
 unfolding digits
 opening_offends = refl
@@ -76,18 +76,18 @@ description_refused : solo_outcome_of A [] (adc ++ codes "rows 0\n%%\nB \"OPEN a
 unfolding digits
 description_refused = refl
 
--- an item offends where it is made whole: B's begins while A has the device open
+-- an item offends at the step that completes it: B's begins while A has the device open
 begun_before : solo A adc (codes "A \"OPEN adc0 1 00000001\\n\"\nB \"READ adc0\"\nA \"CLOSE adc0\\n\"\n# nothing\nB \" name\\n\"\n")
     ≡ only_ending (Refused 13 Bystander)
 unfolding digits
 begun_before = refl
 
--- a count that no payload may have is a command all the same; a line that is too long isn't
+-- a count that no payload may have makes a command nevertheless; a line that is too long doesn't
 counting_offends : solo A adc (codes "A \"OPEN adc0 1 00000001\\n\"\nB \"WRITE adc0 INPUT voltage0 calibbias 65537\\n\"\n") ≡ only_ending (Refused 10 Bystander)
 unfolding digits
 counting_offends = refl
 
--- A is lost beside B, and in the end A's EXIT is
+-- A is lost beside B; and A says EXIT beside B at the end
 losing_offends : solo A adc (codes "A \"OPEN adc0 1 00000001\\n\"\nB \"OPEN adc0 1 00000001\\n\"\ndrop A\n") ≡ only_ending (Refused 11 Bystander)
 unfolding digits
 losing_offends = refl
@@ -96,7 +96,7 @@ exit_offends : solo A adc (codes "A \"OPEN adc0 1 00000001\\n\"\nB \"OPEN adc0 1
 unfolding digits
 exit_offends = refl
 
--- A may go once B has
+-- A may leave after B has left
 leaving_last : solo A adc (codes "A \"OPEN adc0 1 00000001\\n\"\nB \"OPEN adc0 1 00000001\\n\"\ndrop B\nA \"REMASK adc0 00000002\\nCLOSE adc0\\n\"\ndrop A\n")
     ≡ done (codes "A \"0\\n\"\nA \"0\\n0\\n\"\nA dropped\n%%\nA \"0\\n\"\nA \"0\\n0\\n\"\nA dropped\n")
 unfolding digits

@@ -1,4 +1,4 @@
--- Whether a step meets the rules is decided by which devices the connection has open, and which another has, before it.
+-- Which devices the connection has open, and which another has, before a step decides whether the step meets the rules.
 use Rattle.std.proofs.Common.{◌≡◌, ℕ, zero, suc, ◌+◌, ◌<◌, ◌==◌, ◌&&◌, ◌||◌, not, Bool, true, false, List, [], ◌∷◌, map, Option, Some, None, Ok, option_map, is_some, slice_get, cond, refl, sym, ap, ◌∙◌, subst, arith}
 use Rattle.std.specs.Str.{bytes_eq}
 use Rattle.std.proofs.lemmas.Slice.Eq.{bytes_eq-Decides}
@@ -117,7 +117,7 @@ items_decided s r a name (item ∷ items) =
     ap (λ b. b && all_meet_by s r a name items) (stance_decides s r a name item)
     ∙ ap (λ b. item_meets (opens_of s.desc (stance_of a r)) (bytes_eq name a) item && b) (items_decided s r a name items)
 
--- ---- events that meet the rules whoever has what open
+-- ---- events that meet the rules whatever is open
 
 pub record IsPlain (s : Setup) (a : List ℕ) (e : Event) : Type 0 where
   pub neutral : (r : Registry) → others_are_neutral s r a e ≡ true
@@ -152,7 +152,7 @@ handled_plain s a trigger (e ∷ es) = (record { neutral = λ r. refl; parts = �
 
 -- ---- a step
 
--- an arrival joins and parts nobody
+-- an arrival makes nobody join or leave
 stance_arrived : (s : Setup) (a : List ℕ) (h : List Event) (name bytes : List ℕ)
     → stance_of a (registry_after s (Arrived name bytes ∷ h)) ≡ stance_of a (registry_after s h)
 stance_arrived s a h name bytes =

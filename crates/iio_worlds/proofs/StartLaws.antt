@@ -1,4 +1,4 @@
--- Whether the items of a feed meet the rules is decided by what was open when the feed began.
+-- What was open when a feed began decides whether its items meet the rules.
 use Rattle.std.proofs.Common.{◌≡◌, ℕ, suc, ◌&&◌, ◌||◌, not, Bool, true, false, List, [], ◌∷◌, ◌++◌, map, Option, Some, None, Result, Ok, Err, option_map, slice_get, cond, refl, sym, ap, ◌∙◌, subst, is_ok, ◌==◌}
 use Rattle.std.specs.Str.{bytes_eq}
 use Rattle.std.proofs.lemmas.Slice.Eq.{bytes_eq-Decides}
@@ -26,7 +26,7 @@ use Rattle.iio_worlds.proofs.OthersLaws.{IsForeign}
 use Rattle.iio_worlds.proofs.QuietLaws.{IsQuiet, rules_met, quiet_own, quiet_foreign, quiet_first}
 use Rattle.iio_worlds.proofs.TwoWorldsLaws.{OnlyBystanders, all_meet, meet_all, before_events}
 
--- ---- after events that meet the rules the connection doesn't see whether it is alone
+-- ---- after events that meet the rules, the connection doesn't see whether it is alone
 
 speaks : List ℕ → Event → Bool
 speaks a (Arrived name bytes) = bytes_eq name a
@@ -56,7 +56,7 @@ quiet_all s a (e ∷ h) only = by_who (speaks a e) refl (quiet_all s a h only.1)
     by_who true is quiet = quiet_own s a (registry_after s h) e (own_by a e is) (rules_met s a (registry_after s h) e only.0 quiet.0).1 quiet
     by_who false is quiet = quiet_foreign s a (registry_after s h) e (foreign_by a e is) (rules_met s a (registry_after s h) e only.0 quiet.0).0 quiet
 
--- ---- then the second rule asks for another member alone
+-- ---- then the second rule depends only on another member
 
 abbrev pub is_met : Setup → List ℕ → Event → ℕ → Device → Bool
 is_met s a e k d = not (ends_membership s a e k && has_other (Conn a) d.members)
@@ -80,7 +80,7 @@ by_start s a name item h only =
     ap (λ b. others_are_neutral s (registry_after s h) a (Heard name item) && b)
     (all_met s a (Heard name item) 0 (registry_after s h).devices (quiet_all s a h only).0)
 
--- ---- an item joins or parts nobody but its speaker
+-- ---- an item makes nobody join or leave but its speaker
 
 -- whose membership it is: its own, or an inner one
 abbrev IsHis : Who → Who → Type 0
@@ -188,7 +188,7 @@ by_item s r name (Said (Ok (EvClose device))) k d = by_only (Conn name) (is_name
 by_item s r name (End refusal) k d = by_ending r name k d
 by_item s r name item k d = tt
 
--- ---- what another's act leaves: whether one is a member
+-- ---- what another's act leaves as it is: whether the connection is a member
 
 joined_member : (v : Who) (ms : List Member) (m : Member) → same v m.who ≡ false → is_member v (ms ++ m ∷ []) ≡ is_member v ms
 joined_member v [] m is = ap (λ b. b || false) is
@@ -210,13 +210,13 @@ asked_kept a w (Leaving gone) ms apart by = member_left (Conn a) gone ms (among_
 asked_kept a w (Ending gone) ms apart by = member_left (Conn a) gone ms (among_apart a w gone apart by)
 asked_kept a w act ms apart by = refl
 
--- ---- and what one's own act leaves: whether another is a member
+-- ---- what one's own act leaves as it is: whether another is a member
 
 his_mine : (w x : Who) → IsHis w x → mine w x ≡ true
 his_mine w (Conn name) is = ap (same w) is ∙ same_self w
 his_mine w (Inner j) is = refl
 
--- those that leave are no others
+-- none of those that leave is another connection
 his_among : (w x : Who) (gone : List Who) → AreHis w gone → is_among x gone ≡ true → mine w x ≡ true
 his_among w x [] are is = cc
 his_among w x (y ∷ gone) are is = by (same x y) refl is (his_among w x gone are.1)
@@ -247,7 +247,7 @@ pub each_kept : (v : Device → Bool) (f : ℕ → Device → Device) (k : ℕ) 
 each_kept v f k [] all = refl
 each_kept v f k (d ∷ ds) all = ap (λ b. b ∷ map v (map_from f (suc k) ds)) (all k d) ∙ ap (λ bs. v d ∷ bs) (each_kept v f (suc k) ds all)
 
--- ---- the rules by what they ask of the devices
+-- ---- the rules, by what they need to know of the devices
 
 abbrev pub asked_of : List ℕ → Device → Bool
 asked_of a d = is_input d.kind && is_member (Conn a) d.members
@@ -297,7 +297,7 @@ met_same : (s : Setup) (r q : Registry) (a : List ℕ) (e : Event) → map (othe
     → all_from (is_met s a e) 0 r.devices ≡ all_from (is_met s a e) 0 q.devices
 met_same s r q a e alike = met_is s a e 0 r.devices ∙ ap (all_from (λ j b. not (ends_membership s a e j && b)) 0) alike ∙ sym (met_is s a e 0 q.devices)
 
--- another's item parts nothing
+-- another's item ends no membership
 never_parts : (s : Setup) (a name : List ℕ) (item : Item) (k : ℕ) → bytes_eq name a ≡ false → ends_membership s a (Heard name item) k ≡ false
 never_parts s a name (Said (Ok (Close device))) k apart = ap (λ b. b && is_named s device k) apart
 never_parts s a name (Said (Ok (Remask device text))) k apart = ap (λ b. b && is_named s device k) apart
@@ -313,7 +313,7 @@ all_unparted s a name item k (d ∷ ds) apart =
 
 -- ---- the items of a feed
 
--- what the rules ask of the devices for a speaker's items is the same in two registries
+-- what the rules need to know of the devices for a speaker's items is the same in two registries
 abbrev AreSame : List ℕ → List ℕ → Registry → Registry → Type 0
 AreSame a name r q =
     (bytes_eq name a ≡ false → map (asked_of a) r.devices ≡ map (asked_of a) q.devices)

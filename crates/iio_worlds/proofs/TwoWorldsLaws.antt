@@ -1,4 +1,4 @@
--- The two worlds: the transcript of a connection with the other connections' steps is that without them.
+-- The two worlds: a connection's transcript with the other connections' steps is the one without them.
 use Rattle.std.proofs.Common.{◌≡◌, ℕ, suc, ◌&&◌, Option, Some, None, option_map, not, Bool, true, false, List, [], ◌∷◌, ◌++◌, map, cond, refl, sym, ap, ◌∙◌, subst}
 use Rattle.std.proofs.lemmas.Bool.{and_parts}
 use Rattle.std.specs.Str.{bytes_eq}
@@ -50,7 +50,7 @@ before_steps s a (t ∷ ts) h only = before_events s a (events_of_step (told s h
 abbrev AreAlike : Setup → List ℕ → List Event → List Event → Type 0
 AreAlike s a h g = IsQuiet a (registry_after s h) × AreAlone a (registry_after s g) × (own a (told s h) ≡ own a (told s g))
 
--- what the registry has at its devices the told state has
+-- what holds of the registry's devices holds of the told state's
 of_told : (s : Setup) (h : List Event) (P : Registry → Type 0) → P (registry_after s h) → P (registry_of (told s h))
 of_told s h P is = subst P (sym (registry_is s h)) is
 

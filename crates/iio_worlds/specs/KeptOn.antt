@@ -1,4 +1,4 @@
--- How a run over a script goes on, step by step: what a body carries of it. No reader has to believe it.
+-- How a run over a script goes on, step by step, by what the run carries. No reader has to believe it.
 use Rattle.std.specs.Prelude.{◌≡◌, ℕ, true, false, List, [], ◌∷◌, ◌++◌, map, Option, Some, None, Result, Ok, Err, if◌then◌else◌}
 use Rattle.iio_text.specs.declared.refusals.Why.TheVariants.{Bystander}
 use Rattle.iio_history.specs.Event.{Event}
@@ -10,14 +10,14 @@ use Rattle.iio_worlds.specs.Bystanders.{only_bystanders}
 use Rattle.iio_worlds.specs.Worlds.{is_others, transcript_kept}
 use Rattle.iio_worlds.specs.Solo.{first_offence_line, kept_of_script}
 
--- after a text that is kept and a history without an offence, with these steps yet to come
+-- what the run keeps in all, if it has kept this text over this history without an offence, and these steps are still to come
 abbrev pub kept_after : Setup → List ℕ → List ℕ → List Event → List Numbered → Result (List ℕ) Ending
 kept_after s a text h ts = elim (first_offence_line s a h ts) [
   | None ↦ Ok (text ++ transcript_kept s a h (map step_of_numbered ts))
   | Some line ↦ Err (Refused line Bystander)
 ]
 
--- once a step has offended nothing but a line that is refused, or too many bytes, changes how it ends
+-- once a step has offended, the run only ends differently if a line is refused, or if there are too many bytes
 abbrev pub kept_once : Setup → List ℕ → Option ℕ → List ℕ → List Event → List Numbered → Result (List ℕ) Ending
 kept_once s a None text h ts = kept_after s a text h ts
 kept_once s a (Some line) text h ts = Err (Refused line Bystander)
@@ -26,7 +26,7 @@ abbrev pub kept_on : Setup → List ℕ → Option ℕ → List ℕ → List Eve
 kept_on s a offence text h ts Finished = kept_once s a offence text h ts
 kept_on s a offence text h ts ending = Err ending
 
--- how it begins, goes on and ends
+-- how the run begins, goes on and ends
 abbrev pub KeptGoesOn : Type 0
 KeptGoesOn =
     (s : Setup) (a : List ℕ) (ending : Ending)

@@ -1,5 +1,4 @@
--- Both worlds of a connection as they are printed: without the steps of other connections, and with them. (This project's
--- own.)
+-- Both worlds of a connection in print: without the steps of other connections, and with them. (This project's own.)
 use Rattle.std.specs.Prelude.{◌≡◌, ℕ, Bool, true, false, List, [], ◌∷◌, ◌++◌, map, length, codes, Option, Some, None, option_map, slice_get, Result, Ok, Err, if◌then◌else◌}
 use Rattle.iio_text.specs.declared.refusals.Why.TheVariants.{Bystander}
 use Rattle.iio_sensor.specs.Driver.{Driver}
@@ -17,7 +16,7 @@ use Rattle.iio_worlds.specs.Bystanders.{only_bystanders}
 use Rattle.iio_worlds.specs.Worlds.{is_others, without_others, transcript_kept, first_offence}
 use Rattle.iio_worlds.specs.Stance.{step_meets}
 
--- the number of the line of the first step with an event against the rules
+-- the line number of the first step that has an event against the rules
 abbrev pub first_offence_line : Setup → List ℕ → List Event → List Numbered → Option ℕ
 first_offence_line s a h [] = None
 first_offence_line s a h (t ∷ ts) = if only_bystanders s a (with_step s h t.step) then first_offence_line s a (with_step s h t.step) ts else Some t.number
@@ -26,18 +25,18 @@ first_offence_line s a h (t ∷ ts) = if only_bystanders s a (with_step s h t.st
 abbrev pub between : List ℕ
 between = printed (codes "%%" ∷ [])
 
--- the transcript without the steps of other connections, and the whole one without their lines
+-- the transcript without the steps of other connections, and the whole transcript without the lines of those steps
 abbrev pub both_texts : Setup → List ℕ → List Step → List ℕ
 both_texts s a steps = transcript s [] (without_others a steps) ++ between ++ transcript_kept s a [] steps
 
--- a script of which no line is refused
+-- the outcome for a script without a refused line
 abbrev pub solo_of_steps : Setup → List ℕ → List Numbered → Outcome
 solo_of_steps s a ts = elim (first_offence_line s a [] ts) [
   | None ↦ record { printed = both_texts s a (map step_of_numbered ts); ending = Finished }
   | Some line ↦ only_ending (Refused line Bystander)
 ]
 
--- a line that is refused, or too many bytes, come before any step against the rules
+-- a refused line, or too many bytes, count before any step against the rules
 abbrev pub solo_of_script : Setup → List ℕ → List Numbered → Ending → Outcome
 solo_of_script s a ts Finished = solo_of_steps s a ts
 solo_of_script s a ts ending = only_ending ending
@@ -50,13 +49,13 @@ solo_of_head a drivers overlong (Faulty (Line n why)) = only_ending (Refused n w
 solo_of_head a drivers overlong (Faulty Mem) = only_ending Finished
 solo_of_head a drivers overlong Cut = only_ending TooLong
 
--- what `solo` prints of an input for connection `a`, with these drivers, and how it ends
+-- what `solo` prints for connection `a` of an input, with these drivers, and how it ends
 abbrev pub solo_outcome_of : List ℕ → List Driver → List ℕ → Outcome
 solo_outcome_of a drivers input = solo_of_head a drivers (is_overlong input) (head_of (length drivers) input)
 
 -- ---- by one run
 
--- what one run over a script keeps: the lines of the steps that aren't others', or how it ends
+-- what one run over a script keeps: the lines of all steps but those of other connections; or else how it ends
 abbrev pub kept_of_steps : Setup → List ℕ → List Numbered → Result (List ℕ) Ending
 kept_of_steps s a ts = elim (first_offence_line s a [] ts) [
   | None ↦ Ok (transcript_kept s a [] (map step_of_numbered ts))
@@ -83,13 +82,13 @@ abbrev pub twice : Result (List ℕ) Ending → Outcome
 twice (Ok text) = record { printed = text ++ between ++ text; ending = Finished }
 twice (Err ending) = only_ending ending
 
--- ---- the run, over the state that it carries
+-- ---- the run, by the state that it carries
 
 abbrev pub keep : Bool → List ℕ → Result (List ℕ) ℕ → Result (List ℕ) ℕ
 keep others text (Ok more) = Ok (if others then more else text ++ more)
 keep others text (Err line) = Err line
 
--- the lines that it keeps, or the line of the first step against the rules
+-- the lines that the run keeps, or the line number of the first step against the rules
 abbrev pub kept_from : Setup → List ℕ → Told → List Numbered → Result (List ℕ) ℕ
 kept_from s a m [] = Ok []
 kept_from s a m (t ∷ ts) =
@@ -101,15 +100,15 @@ as_ending (Err line) = Err (Refused line Bystander)
 
 -- ---- its law
 
--- both texts are what one run keeps
+-- both texts are the one that one run keeps
 abbrev pub SoloIsTwice : Type 0
 SoloIsTwice = (a : List ℕ) (drivers : List Driver) (input : List ℕ) → solo_outcome_of a drivers input ≡ twice (kept_of a drivers input)
 
--- and it keeps that by the state that it carries
+-- the run keeps it by the state that it carries
 abbrev pub RunKeeps : Type 0
 RunKeeps = (s : Setup) (a : List ℕ) (ts : List Numbered) → kept_of_steps s a ts ≡ as_ending (kept_from s a (told s []) ts)
 
--- the offending step's line is that of the first step against the rules, and there is none exactly where all events meet them
+-- the reported line is that of the first step against the rules, and there is none exactly if all events meet the rules
 abbrev pub number_at : List Numbered → Option ℕ → Option ℕ
 number_at ts None = None
 number_at ts (Some k) = option_map (λ (t : Numbered). t.number) (slice_get ts k)
@@ -121,15 +120,15 @@ OffenceLineIs =
     × (first_offence_line s a [] ts ≡ None → only_bystanders s a (with_steps s [] (map step_of_numbered ts)) ≡ true)
     × (only_bystanders s a (with_steps s [] (map step_of_numbered ts)) ≡ true → first_offence_line s a [] ts ≡ None)
 
--- where a line of the input is refused, or it has too many bytes, that is all that is printed
+-- if a line of the input is refused, or the input has too many bytes, then that ending is all that is printed
 abbrev pub BadLineIsFirst : Type 0
 BadLineIsFirst =
     (a : List ℕ) (drivers : List Driver) (input : List ℕ) → ((outcome_of drivers input).ending ≡ Finished → ⊥)
     → solo_outcome_of a drivers input ≡ only_ending (outcome_of drivers input).ending
 
--- ---- an input in the grammar
+-- ---- an input that keeps to the grammar
 
--- after its description these are its steps, with the numbers of their lines, and no line is refused
+-- after the description of the input these are its steps, with their line numbers, and no line is refused
 pub record HasSteps (drivers : List Driver) (input : List ℕ) (s : Setup) (ts : List Numbered) : Type 0 where
   pub first : ℕ
   pub lines : List (List ℕ)
@@ -143,13 +142,13 @@ pub record HasSteps (drivers : List Driver) (input : List ℕ) (s : Setup) (ts :
 abbrev pub alone_twice : Setup → List ℕ → List Step → List ℕ
 alone_twice s a steps = transcript s [] (without_others a steps) ++ between ++ transcript s [] (without_others a steps)
 
--- beside bystanders both texts are the same one
+-- if all others are bystanders, both texts are the same
 abbrev pub AreAlike : List ℕ → List Driver → List ℕ → Type 0
 AreAlike a drivers input =
     (s : Setup) (ts : List Numbered) → HasSteps drivers input s ts → only_bystanders s a (with_steps s [] (map step_of_numbered ts)) ≡ true
     → solo_outcome_of a drivers input ≡ record { printed = alone_twice s a (map step_of_numbered ts); ending = Finished }
 
--- beside others the line of the first step against the rules is refused, and nothing else is printed
+-- otherwise the line of the first step against the rules is refused, and nothing else is printed
 abbrev pub IsRefusedBeside : List ℕ → List Driver → List ℕ → Type 0
 IsRefusedBeside a drivers input =
     (s : Setup) (ts : List Numbered) → HasSteps drivers input s ts → only_bystanders s a (with_steps s [] (map step_of_numbered ts)) ≡ false

@@ -1,4 +1,4 @@
--- What the two rules ask of the devices, as plain data, and what they say of a step by it. No history is in it.
+-- What the two rules need to know of the devices, as plain data, and how it decides a step. No history is in it.
 use Rattle.std.specs.Prelude.{◌≡◌, ℕ, ◌&&◌, ◌||◌, not, Bool, true, false, List, [], ◌∷◌, map, Option, Some, None, is_some, slice_get, Ok, if◌then◌else◌}
 use Rattle.std.specs.Str.{bytes_eq}
 use Rattle.iiod_grammar.specs.Command.{Close, Remask}
@@ -17,7 +17,7 @@ use Rattle.iio_history.specs.Transcript.{Step, Feed, Drop, begun_by, with_step}
 use Rattle.iio_history.specs.Bench.{Every, IsBench, IsClientOf, front_of, is_in, names_of, seat_at}
 use Rattle.iio_worlds.specs.Bystanders.{has_other, may_say, meets_by, only_bystanders}
 
--- device by device: whether the connection has it open, and it is neither an output nor an averaging device; and whether
+-- for each device: whether the connection has it open, and it is neither an output nor an averaging device; and whether
 -- another connection has it open
 pub record Stance : Type 0 where
   pub own : List Bool
@@ -34,8 +34,8 @@ stance_of a r = record { own = map (has_input a) r.devices; others = map (has_ot
 
 -- ---- an item
 
--- what the rules ask: of the device of a name, whether the connection has it open as above, and whether another has it open;
--- and whether no other has any open
+-- what the rules ask: whether the connection has the device of a name open as above, whether another connection has it open,
+-- and whether no other connection has any device open
 pub record Opens : Type 0 where
   pub own : List ℕ → Bool
   pub others : List ℕ → Bool
@@ -48,7 +48,7 @@ may_part x (Said (Ok (Remask device text))) = not (x.others device)
 may_part x (End refusal) = x.none
 may_part x item = true
 
--- an item of the connection's own, or of another
+-- whether an item meets the rules, said by the connection itself or by another
 abbrev pub item_meets : Opens → (mine : Bool) → Item → Bool
 item_meets x true item = may_part x item
 item_meets x false item = may_say x.own item
@@ -72,7 +72,7 @@ none_so (b ∷ bs) = not b && none_so bs
 abbrev pub opens_of : Description → Stance → Opens
 opens_of desc x = record { own = is_so desc x.own; others = is_so desc x.others; none = none_so x.others }
 
--- ---- a step, over what stands before it
+-- ---- a step, by the state before it
 
 abbrev pub step_meets_by : Opens → List ℕ → Told → Step → Bool
 step_meets_by x a m (Feed name bytes) = has_ended name (registry_of m).users || items_meet x (bytes_eq name a) (items_from (begun_by name m.lines) bytes)
@@ -84,12 +84,12 @@ step_meets s a m t = step_meets_by (opens_of s.desc (stance_of a (registry_of m)
 
 -- ---- its law
 
--- the stance decides of an item what the registry does
+-- the stance decides an item as the registry does
 abbrev pub StanceDecides : Type 0
 StanceDecides =
     (s : Setup) (r : Registry) (a name : List ℕ) (item : Item) → meets_by s r a name item ≡ item_meets (opens_of s.desc (stance_of a r)) (bytes_eq name a) item
 
--- and of a step, where all events before it meet the rules, whether all of its own do
+-- if all events before a step meet the rules, the stance decides whether all events of the step do
 abbrev pub StepDecides : Type 0
 StepDecides =
     (s : Setup) (a : List ℕ) (h : List Event) (t : Step) → only_bystanders s a h ≡ true → only_bystanders s a (with_step s h t) ≡ step_meets s a (told s h) t
@@ -99,24 +99,24 @@ StepDecides =
 abbrev pub has_seat : ℕ → ClientRecord → Bool
 has_seat k client = is_some (seat_at k client.seats)
 
--- who has a seat at a device has it open
+-- a connection has a device open exactly if it has a seat there
 abbrev pub SeatsTell : Type 0
 SeatsTell =
     (m : Told) (name : List ℕ) (client : ClientRecord) (k : ℕ) (st : Station) → IsClientOf m name client → slice_get m.stations k ≡ Some st
     → is_member (Conn name) (device_of st).members ≡ has_seat k client
 
--- whether one of these names but `a` has the device open
+-- whether a connection of these names other than `a` has the device open
 abbrev pub one_has : List ℕ → List (List ℕ) → Device → Bool
 one_has a [] d = false
 one_has a (name ∷ names) d = (not (bytes_eq name a) && is_member (Conn name) d.members) || one_has a names d
 
--- another has it open exactly where one of the other connections that are there does
+-- another connection has it open exactly if one of the other connections that are there does
 abbrev pub OthersAreThere : Type 0
 OthersAreThere =
     (s : Setup) (m : Told) (a : List ℕ) (k : ℕ) (st : Station) → IsBench s m → slice_get m.stations k ≡ Some st
     → has_others a (device_of st) ≡ one_has a (names_of m) (device_of st)
 
--- by the seats of the connection, where it is there, and of the others that are there: what a session sees is enough
+-- by the seats of the connection, if it is there, and of the others that are there: what a session sees is enough
 abbrev pub own_has : Option ClientRecord → ℕ → Bool
 own_has None k = false
 own_has (Some client) k = has_seat k client
@@ -139,7 +139,7 @@ opens_by front own others = record {
   none = none_seated others;
 }
 
--- the clients of the connections of these names but `a`
+-- the clients of the connections of these names, without that of `a`
 abbrev pub clients_but : (clients : List ℕ → ClientRecord) → List ℕ → List (List ℕ) → List ClientRecord
 clients_but clients a [] = []
 clients_but clients a (name ∷ names) = if bytes_eq name a then clients_but clients a names else clients name ∷ clients_but clients a names
@@ -147,7 +147,7 @@ clients_but clients a (name ∷ names) = if bytes_eq name a then clients_but cli
 abbrev pub client_there : (clients : List ℕ → ClientRecord) → List ℕ → List (List ℕ) → Option ClientRecord
 client_there clients a names = if is_in names a then Some (clients a) else None
 
--- what a step is by the clients is what it is by the told state
+-- the clients decide a step as the told state does
 abbrev pub ClientsDecide : Type 0
 ClientsDecide =
     (s : Setup) (m : Told) (a : List ℕ) (clients : List ℕ → ClientRecord) (t : Step) → IsBench s m

@@ -14,17 +14,17 @@ is_others a (Feed name bytes) = not (bytes_eq name a)
 is_others a (Drop name) = not (bytes_eq name a)
 is_others a step = false
 
--- the steps less those
+-- the steps without those
 abbrev pub without_others : List ℕ → List Step → List Step
 without_others a [] = []
 without_others a (t ∷ ts) = if is_others a t then without_others a ts else t ∷ without_others a ts
 
--- the transcript of the steps, less the lines of the steps of other connections
+-- the transcript of all steps, without the lines of the steps of other connections
 abbrev pub transcript_kept : Setup → List ℕ → List Event → List Step → List ℕ
 transcript_kept s a h [] = []
 transcript_kept s a h (t ∷ ts) = (if is_others a t then [] else lines_of_step s h t) ++ transcript_kept s a (with_step s h t) ts
 
--- the first step, counted from 0, with an event against the rules
+-- the first step, counted from 0, that has an event against the rules
 abbrev pub first_offence : Setup → List ℕ → List Event → List Step → Option ℕ
 first_offence s a h [] = None
 first_offence s a h (t ∷ ts) =
@@ -36,13 +36,13 @@ TwoWorlds =
     (s : Setup) (a : List ℕ) (steps : List Step) → only_bystanders s a (with_steps s [] steps) ≡ true
     → transcript s [] (without_others a steps) ≡ transcript_kept s a [] steps
 
--- there is such a step exactly where an event is against the rules
+-- there is no such step exactly if all events meet the rules
 abbrev pub OffenceIs : Type 0
 OffenceIs =
     (s : Setup) (a : List ℕ) (steps : List Step) → (first_offence s a [] steps ≡ None → only_bystanders s a (with_steps s [] steps) ≡ true)
     × (only_bystanders s a (with_steps s [] steps) ≡ true → first_offence s a [] steps ≡ None)
 
--- the items of a feed meet the rules exactly where they do by what was open when it began, where all events before it do
+-- if all events before a feed meet the rules, its items meet them exactly if they do so by what was open when the feed began
 abbrev pub StartDecides : Type 0
 StartDecides =
     (s : Setup) (a name : List ℕ) (items : List Item) (h : List Event) → only_bystanders s a h ≡ true

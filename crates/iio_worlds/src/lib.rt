@@ -7,14 +7,14 @@ ghost use Rattle.iio_worlds.specs.Solo.{SoloIsTwice, RunKeeps, OffenceLineIs, Ba
 ghost use Rattle.iio_worlds.specs.KeptOn.{KeptGoesOn};
 ghost use Rattle.iio_worlds.specs.OwnLines.{OwnLinesPlay};
 
-/// Where the others are bystanders, the transcript of a connection is the same with them and without them.
+/// If the others are bystanders, the transcript of a connection is the same with them and without them.
 pub fn two_worlds()
     ensures two_worlds { TwoWorlds }
     ensures offence { OffenceIs }
     ensures start { StartDecides }
 {}
 
-/// Whether a step meets the rules is told by who has what open before it, and so by the seats that the connections hold.
+/// Who has what open before a step decides whether the step meets the rules, and so do the seats that the connections hold.
 pub fn stance_law()
     ensures item { StanceDecides }
     ensures step { StepDecides }
@@ -23,8 +23,8 @@ pub fn stance_law()
     ensures clients { ClientsDecide }
 {}
 
-/// Both texts of a connection's worlds are what one run keeps. A line that is refused comes before any step against the
-/// rules, and of these the first one's line is told.
+/// Both texts of a connection's worlds are the one that a single run keeps. A refused line counts before any step against the
+/// rules; of such steps, the first one's line is reported.
 pub fn solo_law()
     ensures twice { SoloIsTwice }
     ensures run { RunKeeps }

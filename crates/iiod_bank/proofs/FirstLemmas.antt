@@ -1,4 +1,4 @@
--- A hub as it is made: one device after another.
+-- A hub while it is made: one device after another.
 use Rattle.std.proofs.Common.{◌≡◌, ℕ, zero, suc, ◌+◌, ◌-◌, ◌≤◌, List, [], ◌∷◌, ◌++◌, map, length, replicate, slice_get, Option, Some, refl, sym, ap, ◌∙◌, arith, append_assoc}
 use Rattle.std.specs.Prelude.{Result, Ok, Err, IfOk}
 use Rattle.std.specs.Option.{option_map_or}
@@ -86,7 +86,7 @@ one_more : (k : ℕ) (x : State) → replicate (suc k) x ≡ replicate k x ++ x 
 one_more zero x = refl
 one_more (suc k) x = ap (λ (xs : List State). x ∷ xs) (one_more k x)
 
--- one trigger more, after that many
+-- one more trigger, after that many
 pub trigger_more : (made : List State) (n k : ℕ) (x : State) (states states' : List State) → n ≤ k → states ≡ made ++ replicate (k - n) x
     → states' ≡ states ++ x ∷ [] → states' ≡ made ++ replicate (k + 1 - n) x
 trigger_more made n k x states states' low is pushed =
@@ -102,7 +102,7 @@ length_both : (xs ys : List State) → length (xs ++ ys) ≡ length xs + length 
 length_both [] ys = let z : length ys ≡ 0 + length ys = omega arith in z
 length_both (x ∷ xs) ys = let z = length_both xs ys in omega (arith, z)
 
--- sixteen triggers, where no more are described
+-- sixteen triggers, if no more are described
 pub sixteen_first : (described : List TriggerDesc) (states : List State) → length described ≤ MAX_TRIGGERS → states ≡ first_triggers described
     → length states ≡ MAX_TRIGGERS
 sixteen_first described states few is =
@@ -111,7 +111,7 @@ sixteen_first described states few is =
     let two = length_replicate (MAX_TRIGGERS - length described) (idle_trigger 1) in
     ap (λ (xs : List State). length xs) is ∙ omega (arith, both, one, two, few)
 
--- where the parts were made
+-- if the parts were made
 module _ {X : Type 0} {V : X → Type 0} where
   pub parts_fit : (drv : Plug X V → Driver) (drivers : List Driver) (desc : Description) (n : ℕ) (r : Result (Parts X V) Mem) → IsWellFormed n desc
       → IfOk r (λ p. front_of p.front ≡ served_front desc) → IfOk r (λ p. map (λ d. lent_by drv d) p.devices.items ≡ first_devices drivers 0 desc.devices)

@@ -24,7 +24,7 @@ map_at f (z ∷ zs) (suc i) x e = map_at f zs i x e
 pub within_front : (f : HubFront) (i : ℕ) → i < length (front_of f).devices → i < length f.devices.items
 within_front f i h = rw (length_map_is face_of f.devices.items) at h
 
--- the face that a call at an index was made at
+-- the face at the index that a call was made at
 pub face_at : (f : HubFront) (i : ℕ) (x : Face) → i < length (front_of f).devices → x ≡ get_or f.devices.items i x → slice_get f.devices.items i ≡ Some x
 face_at f i x h e = slice_get_read f.devices.items (length f.devices.items) i x refl (within_front f i h) e
 
@@ -37,7 +37,7 @@ kind_among [] i = refl
 kind_among (x ∷ xs) zero = refl
 kind_among (x ∷ xs) (suc i) = kind_among xs i
 
--- it serves input devices alone
+-- the front has only input devices
 pub kind_is : (f : HubFront) (i : ℕ) → kind_at (front_of f) i ≡ Input
 unfolding kind_at
 kind_is f i = kind_among f.devices.items i

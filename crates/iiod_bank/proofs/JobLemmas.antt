@@ -23,7 +23,7 @@ kept_along a x b e k = rw e k
 pub kept_same : (a b : DeviceView WriterEnd) → b ≡ a → Kept a b
 kept_same a b e = kept_along a a b e (record { name = refl; number = refl; shape = refl })
 
--- one whose site changed, or which stayed
+-- a device whose site changed, or which stayed as it was
 pub kept_site : (site : Site ℕ) (c : Bool) (a b : DeviceView WriterEnd) → b ≡ cond c (record a { site = site }) a → Kept a b
 kept_site site true a b e = kept_along a (record a { site = site }) b e (record { name = refl; number = refl; shape = refl })
 kept_site site false a b e = kept_same a b e

@@ -1,4 +1,4 @@
--- A bank of its own: one device changed.
+-- A bank without locks: one device changed.
 use Rattle.std.proofs.Common.{◌≡◌, ◌⊎◌, ℕ, zero, suc, ◌<◌, ℤ, List, [], ◌∷◌, map, length, set, slice_get, get_or, Option, Some, None, IfSome, inl, inr, refl, sym, ap, ◌∙◌, arith}
 use Rattle.iio_desc.specs.declared.limits.TheConstants.{MAX_TRIGGERS}
 use Rattle.iio_kfifo.specs.declared.tail.Tail.{Ghosts}

@@ -1,4 +1,4 @@
--- A hub before anything was done.
+-- A hub before anything has happened.
 use Rattle.std.specs.Prelude.{ℕ, ◌-◌, List, [], ◌++◌, map, length, replicate, pos}
 use Rattle.iio_sensor.specs.Driver.{Driver}
 use Rattle.iio_desc.specs.Description.{Description}
@@ -12,7 +12,7 @@ use Rattle.iiod_bank.specs.Told.{Told}
 abbrev pub idle_trigger : ℕ → State
 idle_trigger places = record { places = places; attached = []; outstanding = []; missed = 0 }
 
--- the triggers that are described, and then ones with one place each
+-- the triggers that are described, followed by triggers with one place each
 abbrev pub first_triggers : List TriggerDesc → List State
 first_triggers described = map (λ (t : TriggerDesc). idle_trigger t.places) described ++ replicate (MAX_TRIGGERS - length described) (idle_trigger 1)
 

@@ -33,12 +33,12 @@ refused (Err e) = Err (NoErrno e)
 
 -- ---- OPEN
 
--- where it may be done: the mask has channels of the device alone, and its scans have the size that the opener knows
+-- where an OPEN may run: the mask has only channels of the device, and its scans have the size that the opener knows
 pub record MayOpenAt (mask size : ℕ) (shape : ShapeRecord) : Type 0 where
   pub below : mask < 2 ^ count_of shape
   pub sized : size ≡ scan_size shape mask
 
--- the errno of the refusal, where there is one
+-- the errno of the refusal, if there is one
 abbrev pub open_refusal : ℕ → DeviceView WriterEnd → Option State → Option Errno
 open_refusal mask a s = option_and_then errno_of (first_refusal (join_faults a mask s))
 
@@ -69,7 +69,7 @@ module _ (taken lost size capacity : WriterEnd → ℕ) where
 
 -- ---- CLOSE
 
--- at a device without a trigger there is no member
+-- a device without a trigger has no member
 abbrev pub LeaveMakes : (WriterEnd → ℕ) → ℕ → DeviceView WriterEnd → Option State → Option WriterEnd → DeviceView WriterEnd → Option State → Type 0
 LeaveMakes lost number a (Some s) o b (Some t) = LeavesDevice lost number o a b s t
 LeaveMakes lost number a None o b None = (o ≡ None) × (member_of number a.standing.members ≡ None) × (b ≡ a)
@@ -78,13 +78,12 @@ LeaveMakes lost number a None o b (Some t) = ⊥
 
 -- ---- REMASK
 
--- the errno of the refusal, where there is one
+-- the errno of the refusal, if there is one
 abbrev pub remask_refusal : (number mask : ℕ) → DeviceView WriterEnd → Option Errno
 remask_refusal number mask a = option_and_then remask_errno (first_refusal (remask_faults a number mask))
 
 module _ (taken lost size capacity : WriterEnd → ℕ) where
-  -- the member of that number begins anew under that mask; its two ends are those of one new ring, and its old writer comes
-  -- back
+  -- the member of that number begins anew under that mask; its two ends are those of one new ring; its old writer is returned
   pub record Exchanged (number : ℕ) (mask : Mask) (scans bytes : ℕ) (a : DeviceView WriterEnd) (o : Remasked) (b : DeviceView WriterEnd) : Type 0 where
     pub reader : IsFresh bytes o.reader
     pub tail : WriterEnd
@@ -100,7 +99,7 @@ module _ (taken lost size capacity : WriterEnd → ℕ) where
 
 -- ---- attributes
 
--- the channel, where one is given, is one of the shape
+-- the channel, if one is given, is one of the shape's
 abbrev pub HasChannel : Option ℕ → ShapeRecord → Type 0
 HasChannel channel shape = IfSome channel (λ c. c < length shape.channels)
 

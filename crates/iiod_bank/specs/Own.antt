@@ -1,4 +1,4 @@
--- What holds of a bank's own devices: each has its place's number and the front's shape.
+-- What holds of a bank's own devices: each has the number of its place and the front's shape.
 use Rattle.std.specs.Prelude.{◌≡◌, ℕ, List, length, slice_get, Some}
 use Rattle.iio_kfifo.specs.declared.tail.Tail.{Ghosts}
 use Rattle.iio_desc.specs.declared.limits.TheConstants.{MAX_TRIGGERS}

@@ -1,4 +1,4 @@
--- What the reader's end of a ring tells.
+-- What the reader's end of a ring knows.
 use Rattle.std.specs.Prelude.{◌≡◌, ◌≢◌, ℕ, List, [], map}
 use Rattle.iio_kfifo.specs.declared.view.Sent.{Sent}
 use Rattle.iio_kfifo.specs.Ends.{ReaderEnd}
@@ -7,11 +7,11 @@ use Rattle.iio_kfifo.specs.Ends.{ReaderEnd}
 abbrev pub scans_of : List Sent → List (List ℕ)
 scans_of sent = map (λ (s : Sent). s.scan) sent
 
--- the scans that it received, in order
+-- the scans that the reader received, in order
 abbrev pub received_of : ReaderEnd → List (List ℕ)
 received_of r = scans_of r.knows.received
 
--- the bytes of a scan
+-- the number of bytes of a scan
 abbrev pub size_of : ReaderEnd → ℕ
 size_of r = r.size
 

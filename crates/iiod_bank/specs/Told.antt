@@ -1,4 +1,4 @@
--- What a bank tells, and what a job makes of it.
+-- What a bank tells of its state, and what a job makes of it.
 use Rattle.std.specs.Prelude.{◌≡◌, ℕ, ℤ, Bool, false, List, slice_get, slice_set, Option, Some, None, IfSome}
 use Rattle.std.specs.Option.{option_map_or}
 use Rattle.iio_trigger.specs.Trigger.{State}
@@ -12,7 +12,7 @@ pub record Told : Type 0 where
   pub triggers : List State
   pub clock : ℤ
 
--- the trigger of a number, where there is one
+-- the trigger of a number, if there is one
 abbrev pub trigger_at : List State → Option ℕ → Option State
 trigger_at triggers None = None
 trigger_at triggers (Some n) = slice_get triggers n
@@ -30,7 +30,7 @@ abbrev pub trigger_number_at : Told → ℕ → Option ℕ
 trigger_number_at b dev = option_map_or (λ (a : DeviceView WriterEnd). a.site.trigger) (slice_get b.devices dev) None
 
 module _ {O : Type 0} where
-  -- an answer that a job may give at a device of that number where it may be done: what is known over every bank
+  -- an answer that a job may give at a device of that number at which it may run: this is known over every bank
   pub record Allowed (may : ShapeRecord → Type 0) (makes : DeviceView WriterEnd → Option State → O → DeviceView WriterEnd → Option State → Type 0) (dev : ℕ)
       (o : O) : Type 0 where
     pub a : DeviceView WriterEnd
@@ -51,7 +51,7 @@ module _ {O : Type 0} where
     pub made : makes old (trigger_at b.triggers old.site.trigger) o new t
     pub after : c ≡ record b { devices = slice_set b.devices dev new; triggers = with_trigger b.triggers old.site.trigger t }
 
-  -- one that leaves the trigger alone
+  -- a job that leaves the trigger alone
   abbrev pub Only : (DeviceView WriterEnd → O → DeviceView WriterEnd → Type 0) → DeviceView WriterEnd → Option State → O → DeviceView WriterEnd → Option State
       → Type 0
   Only does a s o b t = (t ≡ s) × does a o b
@@ -69,6 +69,6 @@ module _ {O : Type 0} where
     pub made : makes old o new
     pub after : c ≡ record b { triggers = slice_set b.triggers n new }
 
--- what is told moves by a relation, where it is told
+-- the told state moves by a relation, if it is told
 abbrev pub Moves : Option Told → Option Told → (Told → Told → Type 0) → Type 0
 Moves old new R = IfSome old (λ b. (c : Told) × (new ≡ Some c) × R b c)

@@ -1,4 +1,4 @@
-//! What is done at a device's attributes.
+//! The jobs at a device's attributes.
 
 ghost use Rattle.std.specs.Prelude.{◌≡◌, ◌≢◌, ◌<◌, true, length, IfSome};
 ghost use Rattle.std.proofs.Props.{props};
@@ -17,7 +17,7 @@ use iio_sensor::Sensor;
 use iio_text::Errno;
 use iiod_session::{No, raw_no};
 
-// Whether a channel, where one is given, is one of the shape.
+// Whether a channel, if one is given, is one of the shape's.
 fn has_channel(shape: &Shape, channel: Option<u32>) -> bool
     ensures may { result ≡ true → HasChannel channel shape.now }
     ensures exactly { HasChannel channel shape.now → result ≡ true }
@@ -28,7 +28,7 @@ fn has_channel(shape: &Shape, channel: Option<u32>) -> bool
     }
 }
 
-/// A READ of an attribute at a moment.
+/// The job of a READ of an attribute at a moment.
 #[derive(Drop)]
 pub struct ReadWork {
     pub t: i64,
@@ -36,7 +36,7 @@ pub struct ReadWork {
     pub attr: Attr,
 }
 
-// A sample of channel `c`.
+// Samples channel `c`.
 fn read_raw(device: &mut Device<Writer>, t: i64, c: u32) -> Result<Value, No>
     requires { c < length device.old.core.roster.shape.channels }
     ensures { ReadMakes t (Some c) Raw (lent_by ⟦<Plug as Sensor>⟧.driver device.old) result (lent_by ⟦<Plug as Sensor>⟧.driver device.new) }
@@ -47,7 +47,7 @@ fn read_raw(device: &mut Device<Writer>, t: i64, c: u32) -> Result<Value, No>
     }
 }
 
-// A value that the device keeps.
+// Returns a value that the device keeps.
 fn read_kept(
     device: &Device<Writer>,
     _t: i64,
@@ -64,7 +64,7 @@ fn read_kept(
     Ok(device.read_attr(channel, attr))
 }
 
-// The value of an attribute of channel `c`.
+// Returns the value of an attribute of channel `c`.
 fn read_channel(device: &mut Device<Writer>, t: i64, c: u32, attr: Attr) -> Result<Value, No>
     requires { c < length device.old.core.roster.shape.channels }
     ensures { ReadMakes t (Some c) attr (lent_by ⟦<Plug as Sensor>⟧.driver device.old) result (lent_by ⟦<Plug as Sensor>⟧.driver device.new) }
@@ -96,7 +96,7 @@ impl Work for ReadWork {
     }
 }
 
-/// A WRITE of an attribute.
+/// The job of a WRITE of an attribute.
 #[derive(Drop)]
 pub struct WriteWork {
     pub channel: Option<u32>,
@@ -125,7 +125,7 @@ impl Work for WriteWork {
     }
 }
 
-/// SETTRIG.
+/// The job of a SETTRIG.
 #[derive(Drop)]
 pub struct TriggerWork {
     pub trigger: Option<u32>,
@@ -135,7 +135,7 @@ pub struct TriggerWork {
 impl TriggerWork {
     ghost use Rattle.iiod_bank.specs.FrontOf.{front_of};
 
-    /// The device is to have that trigger of the front, or none.
+    /// Creates a SETTRIG that gives the device that trigger of the front, or none.
     pub fn new(_front: &HubFront, trigger: Option<u32>) -> TriggerWork
         requires { IfSome trigger (λ t. t < length (front_of _front.now).triggers) }
         ensures { result.trigger ≡ trigger }
@@ -165,7 +165,7 @@ impl Work for TriggerWork {
     }
 }
 
-/// How many scans a member's queue has lost.
+/// The job that returns the number of scans that a member's queue has lost.
 #[derive(Drop)]
 pub struct LostWork {
     pub member: Member,

@@ -1,4 +1,4 @@
-//! What lends the devices and triggers of a hub to jobs.
+//! The traits of jobs, and of the banks that lend a hub's devices and triggers to them.
 
 ghost use Rattle.std.specs.Prelude.{◌≡◌, ℕ, ◌<◌, true, Option, Some, None, length, is_some, IfSome};
 
@@ -9,7 +9,7 @@ use iio_layout::Shape;
 use iio_sensor::Sensor;
 use iio_trigger::Trigger;
 
-/// What is done at a device, and at its trigger where it has one.
+/// A job at a device, and at its trigger if it has one.
 pub trait DeviceJob: Drop {
     ghost use Rattle.iio_layout.specs.Shape.{ShapeRecord};
     ghost use Rattle.iio_trigger.specs.Trigger.{State};
@@ -19,25 +19,25 @@ pub trait DeviceJob: Drop {
 
     type Out;
 
-    // the shapes of the devices where it may be done
+    // the shapes of the devices at which the job may run
     ghost may: { Self → ShapeRecord → Type 0 };
 
-    // what it makes of a device and of its trigger, and what it answers
+    // what the job makes of a device and of its trigger, and what it answers
     ghost makes: { Self → DeviceView WriterEnd → Option State → Self.Out → DeviceView WriterEnd → Option State → Type 0 };
 
-    /// Whether it may be done at a device of that shape.
+    /// Whether the job may run at a device of that shape.
     fn fits(&self, shape: &Shape) -> bool
         ensures may { result ≡ true → may self.now shape.now }
         ensures exactly { may self.now shape.now → result ≡ true };
 
-    /// Does it at a device without a trigger.
+    /// Runs the job at a device without a trigger.
     fn alone(self, device: &mut Device<Writer>) -> Self::Out
         requires may { may self device.old.core.roster.shape }
         requires none { device.old.core.trigger ≡ None }
         ensures makes { makes self (lent_by ⟦<Plug as Sensor>⟧.driver device.old) None result (lent_by ⟦<Plug as Sensor>⟧.driver device.new) None }
         ensures kept { Kept (lent_by ⟦<Plug as Sensor>⟧.driver device.old) (lent_by ⟦<Plug as Sensor>⟧.driver device.new) };
 
-    /// Does it at a device and its trigger.
+    /// Runs the job at a device and its trigger.
     fn paired(self, device: &mut Device<Writer>, trigger: &mut Trigger) -> Self::Out
         requires may { may self device.old.core.roster.shape }
         requires some { is_some device.old.core.trigger ≡ true }
@@ -46,7 +46,7 @@ pub trait DeviceJob: Drop {
         ensures kept { Kept (lent_by ⟦<Plug as Sensor>⟧.driver device.old) (lent_by ⟦<Plug as Sensor>⟧.driver device.new) };
 }
 
-/// What is done at a device alone.
+/// Work at a device alone.
 pub trait Work: Drop {
     ghost use Rattle.iio_layout.specs.Shape.{ShapeRecord};
     ghost use Rattle.iio_device.specs.Device.{DeviceView};
@@ -55,18 +55,18 @@ pub trait Work: Drop {
 
     type Out;
 
-    // the shapes of the devices where it may be done
+    // the shapes of the devices at which the work may be done
     ghost may: { Self → ShapeRecord → Type 0 };
 
-    // what it makes of a device, and what it answers
+    // what the work makes of a device, and what it answers
     ghost does: { Self → DeviceView WriterEnd → Self.Out → DeviceView WriterEnd → Type 0 };
 
-    /// Whether it may be done at a device of that shape.
+    /// Whether the work may be done at a device of that shape.
     fn fits(&self, shape: &Shape) -> bool
         ensures may { result ≡ true → may self.now shape.now }
         ensures exactly { may self.now shape.now → result ≡ true };
 
-    /// Does it.
+    /// Does the work.
     fn run(self, device: &mut Device<Writer>) -> Self::Out
         requires may { may self device.old.core.roster.shape }
         ensures does { does self (lent_by ⟦<Plug as Sensor>⟧.driver device.old) result (lent_by ⟦<Plug as Sensor>⟧.driver device.new) }
@@ -101,7 +101,7 @@ impl<W: Work> DeviceJob for Alone<W> {
     }
 }
 
-/// What is done at a trigger.
+/// A job at a trigger.
 pub trait TriggerJob {
     ghost use Rattle.iio_trigger.specs.Trigger.{State};
 
@@ -113,7 +113,7 @@ pub trait TriggerJob {
         ensures { makes self trigger.old result trigger.new };
 }
 
-/// What lends the devices and triggers of a hub.
+/// A bank, which lends the devices and triggers of a hub to jobs.
 pub trait Bank {
     ghost use Rattle.iio_desc.specs.declared.limits.TheConstants.{MAX_TRIGGERS};
     ghost use Rattle.iio_core.specs.Front.{Front, shape_at};
@@ -123,14 +123,14 @@ pub trait Bank {
     // the context, names and shapes, which no call changes
     ghost front: { Self → Front };
 
-    // the devices, triggers and clock, where they are told
+    // the devices, triggers and clock, if the bank tells them
     ghost told: { Self → Option Told };
 
     /// The context, names and shapes.
     fn front(&self) -> &HubFront
         ensures { front_of result.now ≡ front self.now };
 
-    /// Does a job at a device and at its trigger, where it has one.
+    /// Runs a job at a device and at its trigger, if it has one.
     fn device<J: DeviceJob>(&mut self, dev: u32, job: J) -> J::Out
         requires dev { dev < length (front self.old).devices }
         requires may { J.may job (shape_at (front self.old) dev) }
@@ -138,7 +138,7 @@ pub trait Bank {
         ensures allowed { Allowed (J.may job) (J.makes job) dev result }
         ensures told { Moves (told self.old) (told self.new) (λ b c. Ran (J.makes job) dev b result c) };
 
-    /// Does a job at a trigger.
+    /// Runs a job at a trigger.
     fn trigger<J: TriggerJob>(&mut self, trigger: u32, job: J) -> J::Out
         requires { trigger < MAX_TRIGGERS }
         ensures front { front self.new ≡ front self.old }
@@ -150,12 +150,12 @@ pub trait Bank {
         requires { dev < length (front self.now).devices }
         ensures { IfSome (told self.now) (λ b. result ≡ is_plugged_at b dev) };
 
-    /// The number of a device's trigger.
+    /// Returns the number of a device's trigger.
     fn trigger_of(&self, dev: u32) -> Option<u32>
         requires { dev < length (front self.now).devices }
         ensures { IfSome (told self.now) (λ b. result ≡ trigger_number_at b dev) };
 
-    /// The moment that the clock shows.
+    /// Returns the moment that the clock shows.
     fn clock(&self) -> i64
         ensures { IfSome (told self.now) (λ b. result ≡ b.clock) };
 
@@ -164,7 +164,7 @@ pub trait Bank {
         ensures front { front self.new ≡ front self.old }
         ensures told { IfSome (told self.old) (λ b. told self.new ≡ Some (record b { clock = t })) };
 
-    /// Something came for a device's members.
+    /// Reports that something came for a device's members.
     fn chime(&mut self, dev: u32)
         requires { dev < length (front self.old).devices }
         ensures front { front self.new ≡ front self.old }

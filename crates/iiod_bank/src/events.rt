@@ -1,4 +1,4 @@
-//! What is done at a device's events, and with a trigger's entry.
+//! The jobs at a device's events, and the handling of a trigger's entry.
 
 ghost use Rattle.std.specs.Prelude.{◌≡◌, true};
 ghost use Rattle.iio_device.specs.Device.{Handles};
@@ -15,7 +15,7 @@ use iio_text::Errno;
 use iio_trigger::Due;
 use iiod_session::{No, held_no, holder_no};
 
-/// EVOPEN of a connection.
+/// The job of a connection's EVOPEN.
 #[derive(Drop)]
 pub struct EvOpenWork {
     pub who: u32,
@@ -45,7 +45,7 @@ impl Work for EvOpenWork {
     }
 }
 
-/// EVREAD of a connection.
+/// The job of a connection's EVREAD.
 #[derive(Drop)]
 pub struct EvReadWork {
     pub who: u32,
@@ -75,7 +75,7 @@ impl Work for EvReadWork {
     }
 }
 
-/// EVCLOSE of a connection.
+/// The job of a connection's EVCLOSE.
 #[derive(Drop)]
 pub struct EvCloseWork {
     pub who: u32,

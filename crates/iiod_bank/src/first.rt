@@ -1,4 +1,4 @@
-//! A hub's devices and triggers before anything was done.
+//! A hub's devices and triggers before anything has happened.
 
 ghost use Rattle.std.specs.Prelude.{◌≡◌, ◌≤◌, All, IfOk, Some, length, map};
 ghost use Rattle.iio_desc.specs.Description.{input_head};
@@ -24,7 +24,7 @@ use iio_trigger::Trigger;
 use std::alloc::Global;
 use std::marker::PhantomData;
 
-// The names and shapes of the devices of a description.
+// Returns the names and shapes of the devices of a description.
 fn faces_of(alloc: Global, descs: &[DeviceDesc]) -> Result<Vec<Face>, Mem>
     ensures { IfOk result (λ v. map face_of v.items ≡ map input_head descs.now) }
 {
@@ -38,7 +38,7 @@ fn faces_of(alloc: Global, descs: &[DeviceDesc]) -> Result<Vec<Face>, Mem>
     Ok(faces)
 }
 
-// The triggers of a hub: those of a description, and then ones with one place each.
+// Returns the triggers of a hub: those of a description, followed by triggers with one place each.
 fn triggers_of(alloc: Global, described: &[TriggerDesc]) -> Result<Vec<Trigger>, Mem>
     requires places { All HasPlaces described.now }
     requires few { length described.now ≤ MAX_TRIGGERS }
@@ -54,14 +54,14 @@ fn triggers_of(alloc: Global, described: &[TriggerDesc]) -> Result<Vec<Trigger>,
     Ok(triggers)
 }
 
-/// What a hub consists of, before anything was done.
+/// The parts of a hub, before anything has happened.
 pub struct Parts {
     pub front: HubFront,
     pub devices: Vec<Device<Writer>>,
     pub triggers: Vec<Trigger>,
 }
 
-// The parts of the hub of a description, which serves its `device` lines alone.
+// Returns the parts of the hub of a description, which serves only its `device` lines.
 fn made_of(alloc: Global, desc: Desc, drivers: Vec<Box<dyn Sensor + Send>>) -> Result<Parts, Mem>
     requires { IsWellFormed (length drivers.items) desc }
     ensures front { IfOk result (λ p. front_of p.front ≡ served_front desc) }
@@ -91,7 +91,7 @@ fn made_of(alloc: Global, desc: Desc, drivers: Vec<Box<dyn Sensor + Send>>) -> R
     })
 }
 
-/// The parts of the hub of a description, which fit each other.
+/// Returns the parts of the hub of a description, which fit each other.
 pub fn parts_of(
     alloc: Global,
     desc: Desc,
@@ -109,9 +109,9 @@ pub fn parts_of(
 }
 
 impl OwnBank {
-    /// The bank of a description, before anything was done: no device has a member, each has the attributes that its
-    /// description writes, no place at a trigger is taken, and the clock shows 0. A device of a driver's number samples the
-    /// driver of that number, any other its recorded rows. Drivers that no device names are dropped. The names of output
+    /// Creates the bank of a description, before anything has happened: no device has a member, each has the attributes that
+    /// its description writes, no place at a trigger is taken, and the clock shows 0. A device with a driver's number samples
+    /// the driver of that number, any other its recorded rows. Drivers that no device names are dropped. The names of output
     /// devices and of averaging devices are unknown.
     pub fn new(
         alloc: Global,

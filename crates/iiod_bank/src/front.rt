@@ -1,4 +1,4 @@
-//! What no call changes of a hub: the context, the names, and a copy of each shape.
+//! The part of a hub that no call changes: the context, the names, and a copy of each shape.
 
 ghost use Rattle.std.specs.Prelude.{◌≡◌, ◌≤◌, ◌<◌, IfSome, length, position};
 ghost use Rattle.std.specs.Str.{bytes_eq};
@@ -26,7 +26,7 @@ pub struct HubFront {
     ghost few_devices: { length devices.items ≤ MAX_DEVICES },
 }
 
-// The place of a device's name.
+// Returns the index of the device of that name.
 fn device_number(devices: &[Face], name: &[u8]) -> Option<usize>
     ensures value { result ≡ position (λ (f : Face). bytes_eq f.name name.now) devices.now }
     ensures within { IfSome result (λ number. number < length devices.now) }
@@ -34,7 +34,7 @@ fn device_number(devices: &[Face], name: &[u8]) -> Option<usize>
     devices.iter().position(|face| face.name.is(name))
 }
 
-// The place of a trigger's name.
+// Returns the index of the trigger of that name.
 fn trigger_number(triggers: &[TriggerDesc], name: &[u8]) -> Option<usize>
     ensures value { result ≡ trigger_number triggers.now name.now }
     ensures within { IfSome result (λ number. number < length triggers.now) }
@@ -47,7 +47,7 @@ impl HubFront {
     ghost use Rattle.iio_core.specs.Front.{find_device, find_trigger, kind_at, shape_at, trigger_name};
     ghost use Rattle.iiod_bank.specs.FrontOf.{front_of};
 
-    /// The number of the device of that name.
+    /// Returns the number of the device of that name.
     pub fn find(&self, name: &[u8]) -> Option<u32>
         ensures value { result ≡ find_device (front_of self.now) name.now }
         ensures within { IfSome result (λ dev. dev < length (front_of self.now).devices) }
@@ -58,7 +58,7 @@ impl HubFront {
         }
     }
 
-    /// The number of the trigger of that name.
+    /// Returns the number of the trigger of that name.
     #[tactic(auto, unfolding(iio_core::specs::Front::find_trigger))]
     pub fn find_trigger(&self, name: &[u8]) -> Option<u32>
         ensures value { result ≡ find_trigger (front_of self.now) name.now }
@@ -68,7 +68,7 @@ impl HubFront {
         Some(number as u32)
     }
 
-    /// The name of a trigger; empty where none has that number.
+    /// Returns the name of a trigger; empty if no trigger has that number.
     pub fn trigger_name(&self, trigger: u32) -> &[u8]
         ensures { result.now ≡ trigger_name (front_of self.now) trigger }
     {
@@ -80,7 +80,7 @@ impl HubFront {
         }
     }
 
-    /// A device's shape.
+    /// The shape of a device.
     pub fn shape(&self, dev: u32) -> &Shape
         requires { dev < length (front_of self.now).devices }
         ensures { result.now ≡ shape_at (front_of self.now) dev }
@@ -88,21 +88,21 @@ impl HubFront {
         &self.devices[dev as usize].shape
     }
 
-    /// Whether a device is an output device: none is served.
+    /// Whether a device is an output device; no output device is served.
     pub fn is_output(&self, _dev: u32) -> bool
         ensures { result ≡ is_output (kind_at (front_of self.now) _dev) }
     {
         false
     }
 
-    /// Whether a device is an averaging device: none is served.
+    /// Whether a device is an averaging device; no averaging device is served.
     pub fn is_average(&self, _dev: u32) -> bool
         ensures { result ≡ is_average (kind_at (front_of self.now) _dev) }
     {
         false
     }
 
-    /// How many devices there are.
+    /// The number of devices.
     pub fn count(&self) -> u32
         ensures value { result ≡ length (front_of self.now).devices }
         ensures most { result ≤ MAX_DEVICES }
@@ -110,7 +110,7 @@ impl HubFront {
         self.devices.len() as u32
     }
 
-    /// The context's text.
+    /// The text of the context.
     pub fn context(&self) -> &[u8]
         ensures { result.now ≡ (front_of self.now).context }
     {

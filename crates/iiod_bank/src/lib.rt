@@ -1,4 +1,4 @@
-//! What a hub has under its locks: devices and triggers, lent to jobs by a bank.
+//! What a hub keeps under its locks: devices and triggers, lent to jobs by a bank.
 #![tactic(auto)]
 
 mod attributes;

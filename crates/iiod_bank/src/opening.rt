@@ -17,13 +17,13 @@ use iio_trigger::Trigger;
 use iiod_session::{No, no_of};
 use std::alloc::Global;
 
-/// A member, and the end of its ring at which scans are taken.
+/// A member, and the end of its ring from which scans are taken.
 pub struct Opened {
     pub member: Member,
     pub reader: Reader,
 }
 
-// Whether a mask has bits below that number of channels alone.
+// Whether a mask has only bits below that number of channels.
 fn is_below(mask: Mask, channels: u32) -> bool
     requires { channels ≤ 64 }
     ensures { result ≡ nat_lt mask.bits (2 ^ channels) }
@@ -42,8 +42,8 @@ pub(crate) fn is_sized(shape: &Shape, mask: Mask, size: u32) -> bool
     scan_size(shape, mask) == size
 }
 
-/// A member more at a device and its trigger, with a ring for `capacity` scans of `size` bytes, which is that of the mask's
-/// scans. Refused as by `Device::may_join`, and then for want of memory; a refusal changes nothing.
+/// Joins a new member to a device and its trigger, with a ring for `capacity` scans of `size` bytes, the size of the mask's
+/// scans. The refusals are those of `Device::may_join`, then `Mem`; a refusal changes nothing.
 pub fn open_at(
     alloc: Global,
     device: &mut Device<Writer>,
@@ -75,7 +75,7 @@ pub fn open_at(
     }
 }
 
-// OPEN at a device without a trigger.
+// Refuses an OPEN at a device without a trigger.
 fn open_alone(device: &Device<Writer>, mask: Mask, _capacity: u32, _size: u32) -> Result<Opened, No>
     requires none { device.now.core.trigger ≡ None }
     ensures { OpenMakes ⟦<Writer as Tail>⟧.taken ⟦<Writer as Tail>⟧.lost ⟦<Writer as Tail>⟧.size ⟦<Writer as Tail>⟧.capacity mask _capacity _size
@@ -87,7 +87,7 @@ fn open_alone(device: &Device<Writer>, mask: Mask, _capacity: u32, _size: u32) -
     }
 }
 
-/// OPEN.
+/// The job of an OPEN.
 #[derive(Drop)]
 pub struct OpenJob {
     pub alloc: Global,
@@ -100,7 +100,7 @@ pub struct OpenJob {
 }
 
 impl OpenJob {
-    /// An OPEN of `mask`, with a ring for `capacity` scans of `size` bytes.
+    /// Creates an OPEN of `mask`, with a ring for `capacity` scans of `size` bytes.
     pub fn new(alloc: Global, mask: Mask, capacity: u32, size: u32) -> OpenJob
         requires some { 1 ≤ capacity }
         requires bytes { 1 ≤ size }
@@ -147,7 +147,7 @@ impl DeviceJob for OpenJob {
     }
 }
 
-/// CLOSE.
+/// The job of a CLOSE.
 #[derive(Drop)]
 pub struct LeaveJob {
     pub member: Member,
@@ -166,7 +166,7 @@ impl DeviceJob for LeaveJob {
         true
     }
 
-    // Where there is no trigger there is no member.
+    // A device without a trigger has no member.
     fn alone(self, _device: &mut Device<Writer>) -> Option<Writer> {
         None
     }

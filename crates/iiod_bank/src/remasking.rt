@@ -15,14 +15,14 @@ use iio_sensor::Sensor;
 use iiod_session::{No, remask_no};
 use std::alloc::Global;
 
-/// What a REMASK's job gives: the writing end of the member's old ring, and the reading end of its new one.
+/// The result of a REMASK's job: the writing end of the member's old ring, and the reading end of its new one.
 pub struct Remasked {
     pub before: Writer,
     pub reader: Reader,
 }
 
-// The member begins anew under that mask, with a ring for `capacity` scans of `size` bytes, which is that of the mask's scans.
-// Refused as by `Device::may_remask`, and then for want of memory; a refusal changes nothing.
+// Puts the member under that mask, with a new ring for `capacity` scans of `size` bytes, the size of the mask's scans. The
+// refusals are those of `Device::may_remask`, then `Mem`; a refusal changes nothing.
 fn remask_at(
     alloc: Global,
     device: &mut Device<Writer>,
@@ -54,7 +54,7 @@ fn remask_at(
     }
 }
 
-/// REMASK.
+/// The job of a REMASK.
 #[derive(Drop)]
 pub struct RemaskWork {
     pub alloc: Global,
@@ -68,7 +68,7 @@ pub struct RemaskWork {
 }
 
 impl RemaskWork {
-    /// A REMASK of `member` to `mask`, with a new ring for `capacity` scans of `size` bytes.
+    /// Creates a REMASK of `member` to `mask`, with a new ring for `capacity` scans of `size` bytes.
     pub fn new(alloc: Global, member: Member, mask: Mask, capacity: u32, size: u32) -> RemaskWork
         requires some { 1 ≤ capacity }
         requires bytes { 1 ≤ size }

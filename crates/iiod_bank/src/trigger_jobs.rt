@@ -1,9 +1,9 @@
-//! What is done at a trigger.
+//! The jobs at a trigger.
 
 use crate::bank::TriggerJob;
 use iio_trigger::{Due, Polled, Trigger};
 
-/// A poll at a moment.
+/// The job of a poll at a moment.
 #[derive(Drop)]
 pub struct PollJob {
     pub t: i64,
@@ -21,7 +21,7 @@ impl TriggerJob for PollJob {
     }
 }
 
-/// The entry of a device is taken in hand.
+/// Takes the entry of a device in hand.
 #[derive(Drop)]
 pub struct DueJob {
     pub dev: u32,
@@ -39,7 +39,7 @@ impl TriggerJob for DueJob {
     }
 }
 
-/// An entry that was handled is taken off. The job owns it, so it is spent by the run alone.
+/// Removes an entry that was handled. The job owns the entry, so only running the job consumes it.
 pub struct DoneJob {
     pub due: Due,
 }

@@ -11,7 +11,7 @@ use iio_layout::Shape;
 use iio_sensor::Sensor;
 use iio_trigger::Trigger;
 
-/// The unplugging of a device: its driver is dropped, each member leaves, and its ring is closed.
+/// The job that unplugs a device: its driver is dropped, each member leaves, and each member's ring is closed.
 #[derive(Drop)]
 pub struct UnplugJob;
 

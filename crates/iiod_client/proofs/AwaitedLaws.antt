@@ -1,4 +1,4 @@
--- What the bytes in the place of an awaited answer say, and that they say one thing.
+-- What the bytes mean that come where an answer is awaited, and that they have one meaning.
 use Rattle.std.proofs.Common.{◌≡◌, ◌⊎◌, inl, inr, ℕ, List, [], ◌∷◌, ◌++◌, length, Option, Some, None, refl, sym, ap, subst, ◌∙◌, arith, append_assoc, append-nil, length-append}
 use Rattle.std.proofs.lemmas.List.{nil_from_length}
 use Rattle.iiod_client.specs.declared.answer.State.{State}
@@ -39,7 +39,7 @@ zero_begun = record { few = omega arith; no_lf = ((λ (e : 48 ≡ 10). omega (ar
 
 -- ---- plain answers
 
--- what a text says of what is awaited
+-- what a text means where this answer is awaited
 abbrev pub ReadsAs : Awaited → State → (text body : List ℕ) → Type 0
 ReadsAs Plain state.More text body = IsBegunLine text
 ReadsAs Plain state.Done text body = IsAccepted Plain text body
@@ -85,7 +85,7 @@ one_says line state.Malformed state.Done a b = absurd (a.0 b)
 one_says line state.Malformed (state.Refused k) a b = let e : refusal_of line ≡ None = a.1 in let f : refusal_of line ≡ Some k = b in absurd cc
 one_says line state.Malformed state.Malformed a b = refl
 
--- a text that is ended says nothing else, and none that goes on after it says anything
+-- a text that has ended has no other reading, and no longer text that begins with it has any
 abbrev One : (s t : State) (more body other : List ℕ) → Type 0
 One s t more body other = (more ≡ []) × (t ≡ s) × (told_body t other ≡ told_body s body)
 
@@ -135,9 +135,9 @@ one_answer (Scans q) s t text more body other is r k =
     let one = one_reading q s t text more body other is r k in (one.0, ap state_in one.1, ap body_in one.1)
 one_answer Nothing s t text more body other is r k = absurd r
 
--- ---- what the bytes to come say
+-- ---- the meaning of the bytes to come
 
--- they begin with what says so; what isn't ended is all of them
+-- the bytes begin with a text of that state; if it hasn't ended, it is all of them
 pub record Tells (w : Awaited) (bytes : List ℕ) (s : State) : Type 0 where
   pub text : List ℕ
   pub more : List ℕ
@@ -146,7 +146,7 @@ pub record Tells (w : Awaited) (bytes : List ℕ) (s : State) : Type 0 where
   pub ended : IsEnd s ⊎ ((s ≡ state.More) × (more ≡ []))
   pub bytes_are : bytes ≡ text ++ more
 
--- of two beginnings one begins with the other
+-- one of two beginnings begins with the other
 split : (xs ys ms ns : List ℕ) → xs ++ ms ≡ ys ++ ns
     → ((more : List ℕ) × (ys ≡ xs ++ more) × (ms ≡ more ++ ns)) ⊎ ((more : List ℕ) × (xs ≡ ys ++ more) × (ns ≡ more ++ ms))
 split [] ys ms ns e = inl (ys, refl, e)
@@ -165,7 +165,7 @@ front_none : (xs ys : List ℕ) → xs ++ ys ≡ [] → xs ≡ []
 front_none [] ys e = refl
 front_none (x ∷ xs) ys e = absurd cc
 
--- where the first is a front of the second
+-- the same, if the first is a front of the second
 tells_by : (w : Awaited) (s t : State) (text text' more more' body other m : List ℕ) → ReadsAs w s text body → ReadsAs w t text' other
     → IsEnd s ⊎ ((s ≡ state.More) × (more ≡ [])) → IsEnd t ⊎ ((t ≡ state.More) × (more' ≡ [])) → text' ≡ text ++ m → more ≡ m ++ more' → s ≡ t
 tells_by w s t text text' more more' body other m r k (inl is) ended e f =
@@ -183,7 +183,7 @@ tells_one w bytes s t a b = by (split a.text b.text a.more b.more (sym a.bytes_a
     by (inl (m, e, f)) = tells_by w s t a.text b.text a.more b.more a.body b.body m a.reads b.reads a.ended b.ended e f
     by (inr (m, e, f)) = sym (tells_by w t s b.text a.text b.more a.more b.body a.body m b.reads a.reads b.ended a.ended e f)
 
--- whole answers at the front of one text are one answer
+-- whole answers at the front of one text are the same answer
 pub one_front : (w : Awaited) (text text' more more' body body' : List ℕ) → IsAccepted w text body → IsAccepted w text' body' → text ++ more ≡ text' ++ more'
     → (text ≡ text') × (body ≡ body') × (more ≡ more')
 one_front w text text' more more' body body' a b e = by (split text text' more more' e)

@@ -1,4 +1,4 @@
--- Talks of a client, one line and its answer after the other.
+-- Talks of a client, each line followed by its answer.
 use Rattle.std.proofs.Common.{◌≡◌, ◌⊎◌, inl, inr, ◌≤◌, ◌<◌, ◌+◌, ◌-◌, ◌*◌, ◌/◌, ◌%◌, ℕ, zero, suc, List, [], ◌∷◌, ◌++◌, length, Option, Result, Ok, Err, refl, sym, ap, subst, ◌∙◌, arith, append-nil}
 use Rattle.std.specs.Prelude.{⊤, OnOk, OnErr, IfErr, min}
 use Rattle.std.proofs.lemmas.Bool.{cases_lt}
@@ -21,7 +21,7 @@ use Rattle.iiod_client.proofs.Heard.{heard_none, heard_front, wrote_none, front_
 pub at_err : {A : Type 0} (P : Result A ClientEnd → Type 0) (r : Result A ClientEnd) (y e : ClientEnd) → r ≡ Err y → y ≡ e → P (Err e) → P r
 at_err {A} P r y e p q h = subst P (sym (p ∙ ap (λ (x : ClientEnd). Err x) q)) h
 
--- ---- where nothing was done
+-- ---- before anything was done
 
 pub goes_none : (l : Option (List ℕ)) (p : List ℕ) (s o : Option (List ℕ)) → Goes (point l p s o) [] [] [] (point l p s o)
 goes_none l p s o = record { hears = heard_none l p s o s o; sends = wrote_none s; prints = wrote_none o }
@@ -47,7 +47,7 @@ early w stage a b is g = record {
   };
 }
 
--- the line of a stage was sent, and its answer came not
+-- the line of a stage was sent, but its answer didn't come
 pub stage_fails : (w : Wanted) (stage : Stage) (line : List ℕ) (e : ClientEnd) (a b c : Point) → IsStage w stage
     → Goes a (heard_at stage) (said_before w stage) (printed_at w stage) b → line ≡ line_at w stage
     → Fails (awaits w stage) line e b c → Breaks w e a c
@@ -200,7 +200,7 @@ after_reads w reads a b are few g =
           }
     ]
 
--- a batch more
+-- one more batch
 reads_more : (w : Wanted) (reads : List Read) (text body : List ℕ) (got : ℕ) → AreReads w reads → got_by w reads ≡ got → got < w.scans
     → IsAnswer (question w got) text body → AreReads w (record { text = text; body = body } ∷ reads)
 reads_more w reads text body got are e less ans = (are, omega (arith, e, less), subst (λ n. IsAnswer (question w n) text body) (sym e) ans)

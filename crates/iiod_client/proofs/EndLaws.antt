@@ -1,4 +1,4 @@
--- The end that the bytes of a link come to.
+-- The end to which the bytes of a link come.
 use Rattle.std.proofs.Common.{◌≡◌, ◌⊎◌, inl, inr, ℕ, zero, suc, List, [], ◌∷◌, ◌++◌, Option, Some, None, IfSome, refl, sym, ap, subst, ◌∙◌, arith, append_assoc, append-nil}
 use Rattle.iiod_client.specs.declared.answer.State.{State}
 use Rattle.iiod_client.specs.declared.answer.State.TheVariants as state
@@ -12,7 +12,7 @@ use Rattle.iiod_client.specs.Point.{Point, Heard, point}
 use Rattle.iiod_client.specs.Talk.{Read, Stage, Opening, Reading, Closing, Leaving, AreReads, IsStage, IsLeaving, heard_at, heard_of, awaits}
 use Rattle.iiod_client.proofs.AwaitedLaws.{Tells, accepted_tells, one_front, tells_one}
 
--- ---- from a stage to the next
+-- ---- from one stage to the next
 
 -- the stage after these answers: that of a READBUF, or that of CLOSE
 abbrev IsAfter : List Read → Stage → Type 0
@@ -45,7 +45,7 @@ one_next w (Reading reads) text body t u e f a b = one_after w (record { text = 
 one_next w (Closing reads) text body t u e f a b = e ∙ sym f
 one_next w (Leaving reads) text body t u e f a b = absurd e
 
--- ---- that many steps over the bytes
+-- ---- a number of steps over the bytes
 
 abbrev Walks : ℕ → Wanted → Stage → (bytes : List ℕ) → Stage → (rest : List ℕ) → Type 0
 Walks zero w s bytes t rest = (t ≡ s) × (rest ≡ bytes)
@@ -57,7 +57,7 @@ walks_on zero w s bytes t rest text more u k e step = (u, text, more, sym k.1 �
 walks_on (suc n) w s bytes t rest text more u (v, begin, other, e, first, k) f step =
     (v, begin, other, e, first, walks_on n w v other t rest text more u k f step)
 
--- a stage is come to by steps from the first
+-- steps from the first stage lead to this stage
 reach_reads : (w : Wanted) (reads : List Read) (t : Stage) (bytes rest : List ℕ) → IsAfter reads t → IsStage w t → AreReads w reads
     → bytes ≡ heard_of reads ++ rest → (n : ℕ) × Walks n w Opening bytes t rest
 reach_reads w [] t bytes rest after is are e =
@@ -82,11 +82,11 @@ reach w (Leaving reads) bytes rest is e =
           (record { body = []; accepted = (refl, refl); next = refl; is_stage = is }),
     )
 
--- the answer that is awaited at a stage follows
+-- the bytes begin with the answer that is awaited at a stage
 abbrev Passes : Wanted → Stage → List ℕ → Type 0
 Passes w t rest = Tells (awaits w t) rest state.Done
 
--- of two stages that are come to over the same bytes, one lies before the other, or they are one
+-- if two stages are reached over the same bytes, one comes before the other, or they are the same
 meet : (m n : ℕ) (w : Wanted) (s : Stage) (bytes : List ℕ) (t : Stage) (rest : List ℕ) (u : Stage) (other : List ℕ) → Walks m w s bytes t rest
     → Walks n w s bytes u other
     → ((t ≡ u) × (rest ≡ other)) ⊎ (Passes w t rest ⊎ Passes w u other)
@@ -109,7 +109,7 @@ end_for state.Done = Done
 end_for (state.Refused n) = Refused n
 end_for state.Malformed = Malformed
 
--- what an end says of the bytes
+-- what an end says about the bytes
 abbrev Shows : Wanted → Stage → List ℕ → ClientEnd → Type 0
 Shows w stage rest end = (IsLeaving stage × (end ≡ Done)) ⊎ ((s : State) × Tells (awaits w stage) rest s × (end ≡ end_for s) × (s ≡ state.Done → ⊥))
 
@@ -155,7 +155,7 @@ one_at w stage rest d e (inr (s, tells, is, other)) (inl y) = absurd (none_await
 one_at w stage rest d e (inr (s, tells, is, other)) (inr (t, tells', is', other')) =
     is ∙ ap end_for (tells_one (awaits w stage) rest s t tells tells') ∙ sym is'
 
--- bytes come to one end
+-- the bytes come to only one end
 one_end : (w : Wanted) (bytes : List ℕ) (d e : ClientEnd) → ComesTo w bytes d → ComesTo w bytes e → d ≡ e
 one_end w bytes d e a b =
     let (m, k) = reach w a.stage bytes a.following a.is_stage a.bytes_are in
@@ -231,7 +231,7 @@ ends_by w end (Some bytes) s o b r = λ due comes. by due comes (came_to w end b
     by due comes (inl came) = inl (one_end w bytes end due came comes)
     by due comes (inr failed) = inr failed
 
--- where nothing was received before
+-- if nothing was received before
 pub ends_from : (w : Wanted) (end : ClientEnd) (left : Option (List ℕ)) (p : List ℕ) (s o : Option (List ℕ)) (b : Point) → p ≡ []
     → Ends w end (point left p s o) b → IfSome left (λ bytes. EndsBy w bytes end)
 ends_from w end left p s o b none ends = ends_by w end left s o b (subst (λ xs. Ends w end (point left xs s o) b) none ends)

@@ -1,4 +1,4 @@
--- What an answer that was heard says.
+-- What an answer that was heard means.
 use Rattle.std.proofs.Common.{◌≡◌, ◌≢◌, ◌≤◌, inl, inr, ℕ, List, [], ◌∷◌, ◌++◌, length, drop, take, Option, None, Result, Ok, Err, refl, sym, ap, subst, ◌∙◌, arith, append-nil, length-append}
 use Rattle.std.specs.Prelude.{⊤}
 use Rattle.std.proofs.lemmas.List.{take-append-drop}
@@ -16,7 +16,7 @@ use Rattle.iiod_client.specs.Point.{Point, Heard, point}
 use Rattle.iiod_client.proofs.Heard.{heard_more, heard_pending}
 use Rattle.iiod_client.proofs.Stands.{no_lf_more, begun_none}
 
--- the link gave no byte, in the midst of an answer
+-- the link gave no byte within an answer
 pub hears_end : (w : Awaited) (body text : List ℕ) (r : Result ⊤ ClientEnd) (y e : ClientEnd) (a b c : Point) → r ≡ Err y → y ≡ e → IsUnfinished w text
     → Heard a text b → Heard b [] c → IsLinkEnd e c → Hears w body r a c
 hears_end w body text r y e a b c p q u h k end = subst (λ (x : Result ⊤ ClientEnd). Hears w body x a c) (sym (p ∙ ap (λ (x : ClientEnd). Err x) q)) (by e end)
@@ -71,7 +71,7 @@ new_stands x e some = subst (λ (y : AnswerRecord). Stands y []) (sym e) (begins
 pub new_more : (x : AnswerRecord) → x ≡ new_answer x.asked → state_of x.place ≡ state.More
 new_more x e = ap (λ (y : AnswerRecord). state_of y.place) e
 
--- an answer that isn't ended is a begin of one
+-- an answer that hasn't ended is the beginning of one
 pub stands_partial : (x : AnswerRecord) (text : List ℕ) → state_of x.place ≡ state.More → Stands x text → IsPartial x.asked text x.body
 stands_partial x text more s = by x.place more s
   where

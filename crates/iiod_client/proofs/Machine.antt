@@ -16,7 +16,7 @@ use Rattle.iiod_client.specs.Standing.{IsPartial, Reads, IsEnd, OneReading, read
 use Rattle.iiod_client.specs.Steps.{AfterLength, AfterMask, AfterBlock}
 use Rattle.iiod_client.proofs.Stands.{blocks_some}
 
--- ---- a line says one thing
+-- ---- a line has one meaning
 
 number_no_refusal : (line : List ℕ) (n k : ℕ) → number_of line ≡ Some n → refusal_of line ≡ Some k → ⊥
 number_no_refusal [] n k e f = absurd cc
@@ -432,7 +432,7 @@ abbrev state_in : Option (State × List ℕ) → State
 state_in None = state.Malformed
 state_in (Some p) = p.0
 
--- after an end there is nothing
+-- nothing comes after an end
 end_step : (q : Asked) (x u : M) (b : ℕ) (s : State) (k : List ℕ) → says x ≡ told s k → IsEnd s → Step q x b u → u ≡ Beyond
 end_step q (At Length line body) u b s k e is step = let same : state.More ≡ s = ap state_in e in absurd (subst IsEnd (sym same) is)
 end_step q (At (Mask n) line body) u b s k e is step = let same : state.More ≡ s = ap state_in e in absurd (subst IsEnd (sym same) is)
@@ -454,7 +454,7 @@ block_some q body fits =
           ]
     ]
 
--- from where a byte more leads somewhere, the answer isn't ended
+-- if one more byte leads somewhere, the answer hasn't ended
 alive : (q : Asked) (x : M) (b : ℕ) (bs : List ℕ) (p : Place) (body : List ℕ) → Runs q x (b ∷ bs) (At p [] body) → says x ≡ told state.More []
 alive q (At Length line heard) b bs p body r = refl
 alive q (At (Mask n) line heard) b bs p body r = refl

@@ -1,4 +1,4 @@
--- What further bytes do to where an answer stands.
+-- How further bytes change the place in an answer.
 use Rattle.std.proofs.Common.{◌≡◌, ◌≢◌, inl, inr, ℕ, ◌+◌, ◌≤◌, List, [], ◌∷◌, ◌++◌, length, Some, Result, Ok, Err, true, refl, sym, ap, subst, ◌∙◌, arith, append_assoc, append-nil, length-append}
 use Rattle.std.specs.Prelude.{is_err, OnErr}
 use Rattle.std.specs.List.{AllByRecursion, flat_map}
@@ -32,7 +32,7 @@ begun_none = record { few = omega arith; no_lf = tt }
 
 -- ---- blocks
 
--- blocks and a further one
+-- blocks and one more
 pub blocks_more : (q : Asked) (text body line rest : List ℕ) → AreBlocks q text body → IsBegunLine line → number_of line ≡ Some (length rest) → 1 ≤ length rest
     → length body + length rest ≤ q.bytes
     → AreBlocks q (text ++ (line_text line ++ rest)) (body ++ rest)
@@ -234,7 +234,7 @@ data_end q missing body text part line Malformed s e none a =
     let b = s.whole part e in
     inr (inr (inr (record { body = body ++ part; are_blocks = b; full = a.0; uneven = a.1 })))
 
--- ---- what stands at a place that is no block
+-- ---- what comes at a place that isn't in a block
 
 pub line_end : (at : Place) (q : Asked) (line body text : List ℕ) (p : Place) → state_of at ≡ More → ((missing : ℕ) → at ≡ Data missing → ⊥)
     → StandsAt at q line body text → AfterLineAt at q line body p
@@ -269,7 +269,7 @@ bytes_end at q missing left line body text part p e s f none a = by p a (subst (
     by (Refused n) a s = data_end q missing body text part line (Refused n) s (omega (arith, f, a.0)) none a.1
     by Malformed a s = data_end q missing body text part line Malformed s (omega (arith, f, a.0)) none a.1
 
--- ---- what the code may count on
+-- ---- what the code may rely on
 
 pub sound_length : (q : Asked) (line body : List ℕ) (p : Place) → AfterLength q body line p → IsSoundPlace p q [] body
 sound_length q line body Length a = absurd a
@@ -303,7 +303,7 @@ bytes_done q left body Done e a = (e, a)
 bytes_done q left body (Refused n) e a = absurd a
 bytes_done q left body Malformed e a = (e, a)
 
--- a line in the place of the mask's
+-- a line where the mask's line is due
 pub is_mask_line : (at : Place) (q : Asked) (n : ℕ) (line said body : List ℕ) (p : Place) → at ≡ Mask n → said ≡ line → AfterMask q n said p
     → AfterLineAt at q line body p
 is_mask_line at q n line said body p e f a =
@@ -315,7 +315,7 @@ sound_mask_line at q n line old body p e s a =
     let k = subst (λ (x : Place). IsSoundPlace x q old body) e s in
     sound_mask q n line body p k.0 k.1 k.2 a
 
--- a line in the place of a length line
+-- a line where a length line is due
 pub is_length_line : (at : Place) (q : Asked) (line said body heard : List ℕ) (p : Place) → state_of at ≡ More → ((missing : ℕ) → at ≡ Data missing → ⊥)
     → ((n : ℕ) → at ≡ Mask n → ⊥)
     → said ≡ line → heard ≡ body → AfterLength q heard said p → AfterLineAt at q line body p

@@ -1,12 +1,12 @@
--- An answer to READBUF, as a whole. (libiio 0.25's iiod: blocks, the mask's line in the first of them, a closing 0 where
--- fewer bytes came than were asked for; that an answer has at least one block and whole scans is this project's own.)
+-- A whole answer to READBUF. (libiio 0.25's iiod: blocks, the mask's line in the first of them, a closing 0 if fewer bytes
+-- came than were asked for; that an answer has at least one block and whole scans is this project's own.)
 use Rattle.std.specs.Prelude.{◌≡◌, ◌⊎◌, ℕ, ◌≤◌, ◌<◌, ◌+◌, ◌%◌, ◌==◌, if◌then◌else◌, List, [], ◌++◌, length, Some}
 use Rattle.std.specs.List.{AllByRecursion, flat_map}
 use Rattle.iio_text.specs.Numbers.{number_of}
 use Rattle.iio_mask.specs.Text.{IsMaskText}
 use Rattle.iiod_client.specs.Line.{line_text, zero_line, refusal_of, IsBegunLine, IsLongLine}
 
--- what a READBUF asks for: how many bytes, under which mask of how many channels, with scans of which size
+-- what a READBUF asks for: the number of bytes, the mask, its number of channels, and the size of a scan
 pub record Asked : Type 0 where
   pub bytes : ℕ
   pub mask : ℕ
@@ -18,7 +18,7 @@ pub record Block : Type 0 where
   pub line : List ℕ
   pub bytes : List ℕ
 
--- the line says how many bytes the block has, and there is one
+-- the line gives the number of the block's bytes, which is at least 1
 pub record IsBlock (block : Block) : Type 0 where
   pub is_line : IsBegunLine block.line
   pub counted : number_of block.line ≡ Some (length block.bytes)
@@ -27,7 +27,7 @@ pub record IsBlock (block : Block) : Type 0 where
 abbrev pub block_text : Block → List ℕ
 block_text block = line_text block.line ++ block.bytes
 
--- the text of blocks: in the first one the mask's line stands after the length line
+-- the text of blocks; in the first one the mask's line comes after the length line
 abbrev pub blocks_text : (mask : List ℕ) → (first : Block) → (later : List Block) → List ℕ
 blocks_text mask first later = line_text first.line ++ (line_text mask ++ (first.bytes ++ flat_map block_text later))
 
@@ -35,7 +35,7 @@ blocks_text mask first later = line_text first.line ++ (line_text mask ++ (first
 abbrev pub blocks_body : (first : Block) → (later : List Block) → List ℕ
 blocks_body first later = first.bytes ++ flat_map (λ (block : Block). block.bytes) later
 
--- a text that is blocks, of which there is at least one: these bytes, no more than were asked for
+-- a text that consists of one or more blocks with these bytes, no more than were asked for
 pub record AreBlocks (q : Asked) (text body : List ℕ) : Type 0 where
   pub first : Block
   pub mask : List ℕ
@@ -52,11 +52,11 @@ pub record AreBlocks (q : Asked) (text body : List ℕ) : Type 0 where
 abbrev pub Begins : Asked → (text body : List ℕ) → Type 0
 Begins q text body = ((text ≡ []) × (body ≡ [])) ⊎ AreBlocks q text body
 
--- whole scans
+-- the bytes are whole scans
 abbrev pub AreScans : Asked → List ℕ → Type 0
 AreScans q body = length body % q.size ≡ 0
 
--- what closes an answer: a line `0` where fewer bytes came than were asked for, and nothing where all came
+-- what closes an answer: a line `0` if fewer bytes came than were asked for, and nothing if all came
 abbrev pub closing : Asked → List ℕ → List ℕ
 closing q body = if length body == q.bytes then [] else line_text zero_line
 
@@ -67,7 +67,7 @@ pub record IsAnswer (q : Asked) (text body : List ℕ) : Type 0 where
   pub scans : AreScans q body
   pub text_is : text ≡ blocks ++ closing q body
 
--- an answer that ends as refused by -n: its first line, or a later line in the place of a length line
+-- an answer that ends with the refusal -n: in its first line, or in a later line where a length line is due
 pub record IsRefusal (q : Asked) (n : ℕ) (text : List ℕ) : Type 0 where
   pub blocks : List ℕ
   pub body : List ℕ
@@ -79,16 +79,16 @@ pub record IsRefusal (q : Asked) (n : ℕ) (text : List ℕ) : Type 0 where
   pub number : refusal_of line ≡ Some n
   pub text_is : text ≡ blocks ++ line_text line
 
--- ---- what is no answer, whatever follows
+-- ---- texts that begin no answer
 
--- a line that can't stand after these bytes in the place of a length line: neither a length of a block that fits, nor a
+-- a line that can't stand where a length line is due after these bytes: neither the length of a block that fits, nor a
 -- closing 0, nor a refusal
 pub record IsWrongLine (q : Asked) (body line : List ℕ) : Type 0 where
   pub no_length : (n : ℕ) → number_of line ≡ Some n → 1 ≤ n → length body + n ≤ q.bytes → ⊥
   pub no_closing : line ≡ zero_line → 1 ≤ length body → AreScans q body → ⊥
   pub no_refusal : (n : ℕ) → refusal_of line ≡ Some n → AreScans q body → ⊥
 
--- after these bytes such a line stands
+-- such a line comes after blocks
 pub record HasWrongLine (q : Asked) (text : List ℕ) : Type 0 where
   pub blocks : List ℕ
   pub body : List ℕ
@@ -106,7 +106,7 @@ pub record IsFirstLength (q : Asked) (n : ℕ) (line : List ℕ) : Type 0 where
   pub some : 1 ≤ n
   pub within : n ≤ q.bytes
 
--- after the first length line another line stands than the mask's
+-- the line after the first length line is not the mask's
 pub record HasWrongMask (q : Asked) (text : List ℕ) : Type 0 where
   pub n : ℕ
   pub first : List ℕ
@@ -116,7 +116,7 @@ pub record HasWrongMask (q : Asked) (text : List ℕ) : Type 0 where
   pub wrong : IsMaskText q.channels line q.mask → ⊥
   pub text_is : text ≡ line_text first ++ line_text line
 
--- what stands before a line: blocks after which more bytes are awaited, or the first length line
+-- what may come before a line: blocks that don't have all bytes yet, or the first length line
 abbrev pub IsBeforeLine : Asked → List ℕ → Type 0
 IsBeforeLine q front =
     ((body : List ℕ) × Begins q front body × (length body < q.bytes))
@@ -130,13 +130,13 @@ pub record HasLongLine (q : Asked) (text : List ℕ) : Type 0 where
   pub long : IsLongLine line
   pub text_is : text ≡ front ++ line
 
--- all bytes came that were asked for, and they are no whole scans
+-- all bytes that were asked for came, and they aren't whole scans
 pub record HasUnevenEnd (q : Asked) (text : List ℕ) : Type 0 where
   pub body : List ℕ
   pub are_blocks : AreBlocks q text body
   pub full : length body ≡ q.bytes
   pub uneven : AreScans q body → ⊥
 
--- a text whose last byte makes that it begins no answer
+-- a text that begins no answer since its last byte
 abbrev pub IsMalformed : Asked → List ℕ → Type 0
 IsMalformed q text = HasWrongLine q text ⊎ (HasWrongMask q text ⊎ (HasLongLine q text ⊎ HasUnevenEnd q text))

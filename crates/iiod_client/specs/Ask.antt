@@ -1,5 +1,5 @@
--- What a client wants of a device, and the lines that it sends for it. (libiio 0.25's iiod: the commands; how many scans
--- are asked for at once is this project's own.)
+-- What a client wants of a device, and the lines that it sends for it. (libiio 0.25's iiod: the commands; how many scans are
+-- asked for at a time is this project's own.)
 use Rattle.std.specs.Prelude.{◌≡◌, ℕ, ◌-◌, ◌*◌, ◌^◌, ◌<◌, ◌≤◌, min, true, List, [], ◌∷◌, ◌++◌, codes, length}
 use Rattle.std.specs.Fmt.{decimal}
 use Rattle.iio_mask.specs.Mask.{has}
@@ -10,7 +10,7 @@ use Rattle.iiod_client.specs.declared.ask.Ask.{Ask}
 use Rattle.iiod_client.specs.declared.client.TheConstants.{MOST_SCANS}
 use Rattle.iiod_client.specs.Answer.{Asked}
 
--- what is wanted, without where it lies in memory
+-- what is wanted, regardless of where it lies in memory
 pub record Wanted : Type 0 where
   pub device : List ℕ
   pub shape : ShapeRecord
@@ -34,11 +34,11 @@ pub record IsAsk (w : Wanted) : Type 0 where
 abbrev pub size_for : Wanted → ℕ
 size_for w = scan_size w.shape w.mask
 
--- the bytes that are asked for where `got` scans came before
+-- the number of bytes that are asked for after `got` scans
 abbrev pub batch : Wanted → (got : ℕ) → ℕ
 batch w got = size_for w * min MOST_SCANS (w.scans - got)
 
--- the answer that is awaited then
+-- the answer that is awaited after `got` scans
 abbrev pub question : Wanted → (got : ℕ) → Asked
 question w got = record { bytes = batch w got; mask = w.mask; channels = count_of w.shape; size = size_for w }
 

@@ -1,5 +1,5 @@
--- What a client awaits after a line: a plain answer after OPEN and CLOSE, the answer to READBUF, nothing after EXIT. (libiio
--- 0.25's iiod.)
+-- What a client awaits after a line: a plain answer after OPEN and CLOSE, an
+-- answer to READBUF after READBUF, nothing after EXIT. (libiio 0.25's iiod.)
 use Rattle.std.specs.Prelude.{◌≡◌, ◌⊎◌, ℕ, List, [], Some, None}
 use Rattle.iiod_client.specs.Line.{line_text, zero_line, refusal_of, IsBegunLine, IsLongLine}
 use Rattle.iiod_client.specs.Answer.{Asked, IsAnswer, IsRefusal, IsMalformed}
@@ -23,13 +23,13 @@ pub record IsPlainRefusal (n : ℕ) (text : List ℕ) : Type 0 where
   pub number : refusal_of line ≡ Some n
   pub text_is : text ≡ line_text line
 
--- it is a refusal by -n in its place
+-- the text is a refusal by -n instead of that answer
 abbrev pub IsRefused : Awaited → ℕ → List ℕ → Type 0
 IsRefused Plain n text = IsPlainRefusal n text
 IsRefused (Scans q) n text = IsRefusal q n text
 IsRefused Nothing n text = ⊥
 
--- a line that is no plain answer
+-- a line that isn't a plain answer
 pub record IsWrongPlain (text : List ℕ) : Type 0 where
   pub line : List ℕ
   pub is_line : IsBegunLine line
@@ -37,13 +37,13 @@ pub record IsWrongPlain (text : List ℕ) : Type 0 where
   pub no_refusal : refusal_of line ≡ None
   pub text_is : text ≡ line_text line
 
--- its last byte makes that it begins neither
+-- since its last byte the text begins neither
 abbrev pub IsWrong : Awaited → List ℕ → Type 0
 IsWrong Plain text = IsWrongPlain text ⊎ IsLongLine text
 IsWrong (Scans q) text = IsMalformed q text
 IsWrong Nothing text = ⊥
 
--- more is awaited
+-- the text may go on
 abbrev pub IsUnfinished : Awaited → List ℕ → Type 0
 IsUnfinished Plain text = IsBegunLine text
 IsUnfinished (Scans q) text = (body : List ℕ) × IsPartial q text body

@@ -9,13 +9,13 @@ use Rattle.iiod_client.specs.Point.{Point, Goes, Stops, IsAtEnd}
 use Rattle.iiod_client.specs.Printed.{refused_line}
 use Rattle.iiod_client.specs.Talk.{Read, Stage, Leaving, IsStage, IsLeaving, heard_at, sent_at, printed_at, awaits}
 
--- all that was wanted came, was confirmed and printed
+-- all that was wanted came, was confirmed, and was printed
 pub record IsWhole (w : Wanted) (a b : Point) : Type 0 where
   pub reads : List Read
   pub is_stage : IsStage w (Leaving reads)
   pub goes : Goes a (heard_at (Leaving reads)) (sent_at w (Leaving reads)) (printed_at w (Leaving reads)) b
 
--- the answer that was awaited at a stage is a refusal, and was printed as this
+-- the answer that was awaited at a stage is a refusal, and this was printed for it
 pub record EndsRefused (w : Wanted) (n : ℕ) (printed : List ℕ) (a b : Point) : Type 0 where
   pub stage : Stage
   pub is_stage : IsStage w stage
@@ -23,7 +23,7 @@ pub record EndsRefused (w : Wanted) (n : ℕ) (printed : List ℕ) (a b : Point)
   pub refused : IsRefused (awaits w stage) n text
   pub goes : Goes a (heard_at stage ++ text) (sent_at w stage) (printed_at w stage ++ printed) b
 
--- what came in the place of the answer that was awaited at a stage is no answer
+-- what came instead of the answer that was awaited at a stage isn't an answer
 pub record EndsMalformed (w : Wanted) (a b : Point) : Type 0 where
   pub stage : Stage
   pub is_stage : IsStage w stage
@@ -40,13 +40,13 @@ pub record EndsCut (w : Wanted) (a b : Point) : Type 0 where
   pub goes : Goes a (heard_at stage ++ text) (sent_at w stage) (printed_at w stage) b
   pub at_end : IsAtEnd b
 
--- a call failed or memory ran out at a stage: front parts of what is sent and printed there were
+-- a call failed or memory ran out at a stage: front parts of what is sent and printed up to there were sent and printed
 pub record EndsEarly (w : Wanted) (a b : Point) : Type 0 where
   pub stage : Stage
   pub is_stage : IsStage w stage
   pub goes : Stops a (heard_at stage) (sent_at w stage) (printed_at w stage) b
 
--- a call failed or memory ran out at the printing of a refusal
+-- a call failed or memory ran out while a refusal was printed
 pub record EndsRefusing (w : Wanted) (a b : Point) : Type 0 where
   pub stage : Stage
   pub is_stage : IsStage w stage
@@ -65,16 +65,16 @@ Ends w LinkFault a b = EndsEarly w a b
 Ends w WriteFault a b = EndsEarly w a b ⊎ EndsRefusing w a b
 Ends w Memory a b = EndsEarly w a b ⊎ EndsRefusing w a b
 
--- the counts of faults, of the link and of the output: each rose exactly where the end says so
+-- the counts of faults of the link and of the output: each rose exactly if the end says so
 abbrev pub Faults : ClientEnd → (link link' output output' : ℕ) → Type 0
 Faults LinkFault link link' output output' = Rose link link' × (output' ≡ output)
 Faults WriteFault link link' output output' = (link' ≡ link) × Rose output output'
 Faults end link link' output output' = (link' ≡ link) × (output' ≡ output)
 
--- ---- the end that the answers over a link come to
+-- ---- the end to which the answers over a link come
 
--- at a stage, the bytes that follow end a reading so: nothing is awaited any more; or they begin with a refusal, or with what
--- is no answer; or they end within the answer
+-- at a stage, the bytes that follow lead to this end: nothing more is awaited; or they begin with a refusal, or with what
+-- isn't an answer; or they end within the answer
 abbrev pub EndsAt : Wanted → Stage → (following : List ℕ) → ClientEnd → Type 0
 EndsAt w stage following Done = IsLeaving stage
 EndsAt w stage following (Refused n) = (text : List ℕ) × (more : List ℕ) × (following ≡ text ++ more) × IsRefused (awaits w stage) n text
@@ -82,8 +82,8 @@ EndsAt w stage following Malformed = (text : List ℕ) × (more : List ℕ) × (
 EndsAt w stage following Cut = IsUnfinished (awaits w stage) following
 EndsAt w stage following end = ⊥
 
--- the end that the bytes of a link come to: they begin with the answers to all lines before a stage's, and what follows ends
--- the reading there. At `Done` they begin with `0`, whole answers until all scans that are wanted came, and `0`
+-- the end to which the bytes of a link come: they begin with the answers to all lines before a stage's, and what follows ends
+-- the reading there. At `Done` they begin with `0`, whole answers until all wanted scans came, and `0`
 pub record ComesTo (w : Wanted) (bytes : List ℕ) (end : ClientEnd) : Type 0 where
   pub stage : Stage
   pub is_stage : IsStage w stage
@@ -91,13 +91,13 @@ pub record ComesTo (w : Wanted) (bytes : List ℕ) (end : ClientEnd) : Type 0 wh
   pub bytes_are : bytes ≡ heard_at stage ++ following
   pub ends : EndsAt w stage following end
 
--- the ends at which a call failed or memory ran out
+-- the ends after a failed call or lack of memory
 abbrev pub IsFailure : ClientEnd → Type 0
 IsFailure LinkFault = Unit {0}
 IsFailure WriteFault = Unit {0}
 IsFailure Memory = Unit {0}
 IsFailure end = ⊥
 
--- how a reading ended over a link that gives these bytes: as they come to, unless a call failed or memory ran out
+-- how a reading ended over a link with these bytes: with the end to which they come, unless a call failed or memory ran out
 abbrev pub EndsBy : Wanted → (bytes : List ℕ) → ClientEnd → Type 0
 EndsBy w bytes end = (due : ClientEnd) → ComesTo w bytes due → (end ≡ due) ⊎ IsFailure end

@@ -13,12 +13,12 @@ line_text line = line ++ 10 ∷ []
 abbrev pub HasNoLf : List ℕ → Type 0
 HasNoLf bytes = AllByRecursion (λ b. b ≢ 10) bytes
 
--- a line that may still end: no LF came yet, and it isn't too long
+-- a line that may still end: no LF has come yet, and it isn't too long
 pub record IsBegunLine (bytes : List ℕ) : Type 0 where
   pub few : length bytes ≤ MAX_LINE
   pub no_lf : HasNoLf bytes
 
--- a line without an LF that is too long since its last byte
+-- a line without an LF that became too long with its last byte
 pub record IsLongLine (bytes : List ℕ) : Type 0 where
   pub one_more : length bytes ≡ suc MAX_LINE
   pub no_lf : HasNoLf bytes

@@ -1,8 +1,8 @@
--- A link and an output as a client sees them: what goes over them between two points. (This project's own.)
+-- A link and an output as a client sees them, and what goes over them between two points. (This project's own.)
 use Rattle.std.specs.Prelude.{◌≡◌, ℕ, List, [], ◌++◌, Option, Some, IfSome}
 
--- the bytes that are left of the link and those received and not looked at yet, those sent, and those printed, where they
--- are told
+-- the bytes that are left of the link, those received and not yet
+-- looked at, those sent, and those printed, if they are visible
 pub record Point : Type 0 where
   pub left : Option (List ℕ)
   pub pending : List ℕ
@@ -16,19 +16,19 @@ point left pending sent printed = record { left = left; pending = pending; sent 
 abbrev pub Heard : Point → List ℕ → Point → Type 0
 Heard a text b = IfSome a.left (λ xs. (ys : List ℕ) × (b.left ≡ Some ys) × (a.pending ++ xs ≡ text ++ (b.pending ++ ys)))
 
--- of the bytes to come these were the first
+-- the bytes to come began with these
 abbrev pub HeardFront : Point → List ℕ → Type 0
 HeardFront a text = IfSome a.left (λ xs. (more : List ℕ) × (a.pending ++ xs ≡ text ++ more))
 
--- nothing is to come any more
+-- no byte is still to come
 abbrev pub IsAtEnd : Point → Type 0
 IsAtEnd a = IfSome a.left (λ xs. a.pending ++ xs ≡ [])
 
--- this was written after what was written before
+-- this text was appended to what was written before
 abbrev pub Wrote : Option (List ℕ) → List ℕ → Option (List ℕ) → Type 0
 Wrote old text new = IfSome old (λ ys. new ≡ Some (ys ++ text))
 
--- a front part of it was
+-- a front part of this text was appended
 abbrev pub WroteFront : Option (List ℕ) → List ℕ → Option (List ℕ) → Type 0
 WroteFront old text new = IfSome old (λ ys. (front : List ℕ) × (rest : List ℕ) × (text ≡ front ++ rest) × (new ≡ Some (ys ++ front)))
 

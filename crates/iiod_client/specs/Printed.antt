@@ -51,7 +51,7 @@ lines_below shape mask body (suc k) =
     let size = scan_size shape mask in
     lines_below shape mask body k ++ scan_line shape mask (take size (drop (k * size) body))
 
--- the lines of all of them
+-- the lines of all scans in these bytes
 abbrev pub scan_lines : ShapeRecord → (mask : ℕ) → List ℕ → List ℕ
 scan_lines shape mask body = lines_below shape mask body (length body / scan_size shape mask)
 

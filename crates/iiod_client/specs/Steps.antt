@@ -1,4 +1,4 @@
--- What a whole line does to an answer. Cited by private functions alone.
+-- What a whole line does to an answer. Only private functions cite this.
 use Rattle.std.specs.Prelude.{◌≡◌, ℕ, ◌≤◌, ◌<◌, ◌+◌, List, [], length, Some}
 use Rattle.iio_text.specs.Numbers.{number_of}
 use Rattle.iio_mask.specs.Text.{IsMaskText}
@@ -8,7 +8,7 @@ use Rattle.iiod_client.specs.Standing.{AnswerRecord}
 use Rattle.iiod_client.specs.Line.{zero_line, refusal_of}
 use Rattle.iiod_client.specs.Answer.{Asked, AreScans, IsWrongLine}
 
--- a line in the place of a length line, after these bytes
+-- after a line where a length line is due; `body` are the bytes before it
 abbrev pub AfterLength : Asked → (body line : List ℕ) → Place → Type 0
 AfterLength q body line Length = ⊥
 AfterLength q body line (Mask n) = (number_of line ≡ Some n) × (1 ≤ n) × (n ≤ q.bytes) × (body ≡ [])
@@ -17,13 +17,13 @@ AfterLength q body line Done = (line ≡ zero_line) × (1 ≤ length body) × Ar
 AfterLength q body line (Refused n) = (refusal_of line ≡ Some n) × AreScans q body
 AfterLength q body line Malformed = IsWrongLine q body line
 
--- a line in the place of the mask's, after a length line of n
+-- after a line where the mask's line is due; the length line before it gave n
 abbrev pub AfterMask : Asked → (n : ℕ) → (line : List ℕ) → Place → Type 0
 AfterMask q n line (Data missing) = (missing ≡ n) × IsMaskText q.channels line q.mask
 AfterMask q n line Malformed = IsMaskText q.channels line q.mask → ⊥
 AfterMask q n line place = ⊥
 
--- the end of a block, after these bytes
+-- after the end of a block; `body` are the data bytes
 abbrev pub AfterBlock : Asked → (body : List ℕ) → Place → Type 0
 AfterBlock q body Length = length body < q.bytes
 AfterBlock q body Done = (length body ≡ q.bytes) × AreScans q body
@@ -35,7 +35,7 @@ abbrev pub AfterBytes : Asked → (left : ℕ) → (body : List ℕ) → Place �
 AfterBytes q left body (Data missing) = (missing ≡ left) × (1 ≤ left) × (length body + left ≤ q.bytes)
 AfterBytes q left body place = (left ≡ 0) × AfterBlock q body place
 
--- the line that ends
+-- after the line that ends
 abbrev pub AfterLineAt : Place → Asked → (line body : List ℕ) → Place → Type 0
 AfterLineAt Length q line body place = AfterLength q body line place
 AfterLineAt (Mask n) q line body place = AfterMask q n line place

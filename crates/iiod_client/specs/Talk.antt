@@ -6,48 +6,48 @@ use Rattle.iiod_client.specs.Ask.{Wanted, batch, question, size_for, open_line, 
 use Rattle.iiod_client.specs.Awaited.{Awaited, Plain, Scans, Nothing}
 use Rattle.iiod_client.specs.Printed.{scan_lines}
 
--- an answer to READBUF that came whole
+-- a whole answer to READBUF
 pub record Read : Type 0 where
   pub text : List ℕ
   pub body : List ℕ
 
--- how many scans came by these answers, of which the last stands first
+-- the number of scans that came with these answers, of which the last comes first
 abbrev pub got_by : Wanted → List Read → ℕ
 got_by w [] = 0
 got_by w (a ∷ before) = got_by w before + length a.body / size_for w
 
--- each of them answers what was asked then
+-- each of them answers what was asked for then
 abbrev pub AreReads : Wanted → List Read → Type 0
 AreReads w [] = Unit {0}
 AreReads w (a ∷ before) = AreReads w before × (got_by w before < w.scans) × IsAnswer (question w (got_by w before)) a.text a.body
 
--- what was heard: that the device was opened, and these answers
+-- what was heard: that the device was opened, and then these answers
 abbrev pub heard_of : List Read → List ℕ
 heard_of [] = line_text zero_line
 heard_of (a ∷ before) = heard_of before ++ a.text
 
--- what was sent for it
+-- what was sent to get them
 abbrev pub sent_for : Wanted → List Read → List ℕ
 sent_for w [] = open_line w
 sent_for w (a ∷ before) = sent_for w before ++ readbuf_line w (batch w (got_by w before))
 
--- what is printed for it
+-- what is printed for them
 abbrev pub printed_for : Wanted → List Read → List ℕ
 printed_for w [] = []
 printed_for w (a ∷ before) = printed_for w before ++ scan_lines w.shape w.mask a.body
 
--- where a client stands, by the line that it sends next or whose answer it awaits
+-- how far a client has come, by the line that it sends next or whose answer it awaits
 pub data Stage : Type 0 where
   -- OPEN
   Opening : Stage
   -- a READBUF, after these answers
   Reading : (reads : List Read) → Stage
-  -- CLOSE, after all scans that are wanted
+  -- CLOSE, after all wanted scans
   Closing : (reads : List Read) → Stage
   -- EXIT
   Leaving : (reads : List Read) → Stage
 
--- a stage that is come to
+-- a stage that a client can reach
 abbrev pub IsStage : Wanted → Stage → Type 0
 IsStage w Opening = Unit {0}
 IsStage w (Reading reads) = AreReads w reads × (got_by w reads < w.scans)
@@ -73,25 +73,25 @@ said_before w (Reading reads) = sent_for w reads
 said_before w (Closing reads) = sent_for w reads
 said_before w (Leaving reads) = sent_for w reads ++ close_line w
 
--- the line
+-- the line of a stage
 abbrev pub line_at : Wanted → Stage → List ℕ
 line_at w Opening = open_line w
 line_at w (Reading reads) = readbuf_line w (batch w (got_by w reads))
 line_at w (Closing reads) = close_line w
 line_at w (Leaving reads) = exit_line
 
--- what was sent with it
+-- what was sent, with that line
 abbrev pub sent_at : Wanted → Stage → List ℕ
 sent_at w stage = said_before w stage ++ line_at w stage
 
--- what was printed before it
+-- what was printed before that line
 abbrev pub printed_at : Wanted → Stage → List ℕ
 printed_at w Opening = []
 printed_at w (Reading reads) = printed_for w reads
 printed_at w (Closing reads) = printed_for w reads
 printed_at w (Leaving reads) = printed_for w reads
 
--- the answer that is awaited for it
+-- the answer that is awaited after that line
 abbrev pub awaits : Wanted → Stage → Awaited
 awaits w Opening = Plain
 awaits w (Reading reads) = Scans (question w (got_by w reads))

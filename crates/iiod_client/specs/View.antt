@@ -1,4 +1,4 @@
--- How an answer is seen, and what the code keeps true of it.
+-- How contracts see an answer, and what the code keeps true of it.
 use Rattle.std.specs.Prelude.{◌≤◌, vec_capacity}
 use Rattle.iiod_client.specs.declared.answer.Answer.TheInside.{Inside}
 use Rattle.iiod_client.specs.declared.answer.TheConstants.{MAX_ASKED}

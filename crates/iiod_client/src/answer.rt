@@ -1,4 +1,4 @@
-//! An answer to READBUF, in whatever parts its bytes come.
+//! An answer to READBUF, whose bytes may come in any parts.
 
 ghost use Rattle.std.specs.Prelude.{◌≡◌, ℕ, ◌+◌, ◌-◌, ◌^◌, ◌<◌, ◌≤◌, ◌%◌, ◌++◌, [], ◌∷◌, List, IfOk, IfSome, IfNone, Some, length, take, vec_capacity, vec_len};
 ghost use Rattle.iio_text.specs.Numbers.{number_of};
@@ -13,40 +13,40 @@ use iio_text::read_number;
 use std::alloc::Global;
 use std::marker::Model;
 
-/// The most bytes that an answer is asked for.
+/// The maximum number of bytes that an answer is asked for.
 pub const MAX_ASKED: u32 = 65_536;
 
-/// What the bytes of an answer so far are.
+/// What the bytes of an answer are so far.
 #[derive(Clone, Copy, Debug, PartialEq, Eq)]
 pub enum State {
     /// The beginning of an answer.
     More,
     /// A whole answer.
     Done,
-    /// A refusal by this negative number, in place of an answer or after blocks of it.
+    /// A refusal by this negative number, instead of an answer or after blocks of one.
     Refused(u32),
-    /// No answer begins so.
+    /// No answer begins like this.
     Malformed,
 }
 
-/// Where an answer stands.
+/// The place in an answer that has been reached.
 #[derive(Clone, Copy, Debug, PartialEq, Eq)]
 pub enum Place {
-    /// In a line in the place of a length line.
+    /// Within a line that stands where a length line is due.
     Length,
-    /// In the mask's line, after the length line of the first block.
+    /// Within the mask's line, after the length line of the first block, whose length this is.
     Mask(u32),
-    /// In the bytes of a block, with how many of them are still to come.
+    /// Within the bytes of a block; this number of them is still to come.
     Data(u32),
     /// At the end of an answer.
     Done,
     /// At the end of a refusal.
     Refused(u32),
-    /// After the byte that no answer has there.
+    /// After a byte that no answer has there.
     Malformed,
 }
 
-/// An answer of which some bytes came.
+/// An answer of which some bytes have come.
 #[derive(Debug, Drop)]
 pub struct Answer {
     asked: u32,
@@ -71,8 +71,8 @@ impl Model for Answer {
 }
 
 impl Answer {
-    /// An answer of which nothing came, to a READBUF that asks for `asked` bytes under a mask of `channels` channels, whose
-    /// scans have `size` bytes. The room for its bytes is taken here, and no later call takes memory.
+    /// Makes an answer of which nothing has come yet, to a READBUF that asks for `asked` bytes under a mask of `channels`
+    /// channels, whose scans have `size` bytes. The room for its bytes is taken here, and no later call takes memory.
     pub fn new(
         alloc: Global,
         asked: u32,
@@ -99,18 +99,17 @@ impl Answer {
         })
     }
 
-    /// The data bytes of all blocks that were taken so far, one after the other, those of a block that isn't whole yet among
-    /// them.
+    /// Returns the data bytes of all blocks so far, one block after the other, with those of a block that isn't whole yet.
     pub fn body(&self) -> &[u8]
         ensures { result.now ≡ self.now.body }
     {
         &self.body
     }
 
-    /// Takes bytes up to the answer's end, and says how many it took and what the answer is. It doesn't matter how the bytes
-    /// are cut. `Done` and `Refused` come exactly with the last byte of an answer and of a refusal; `Malformed` comes with
-    /// the LF of the first line that no answer has there, with a line's 33rd byte that is no LF, and with the last byte
-    /// asked for where the bytes are no whole scans. After an end no byte is taken.
+    /// Takes bytes up to the answer's end, and returns how many it took and what the answer is. It doesn't matter how the
+    /// bytes are cut. It returns `Done` and `Refused` exactly with the last byte of an answer and of a refusal, and
+    /// `Malformed` with the LF of the first line that no answer has there, with the 33rd byte of a line if that isn't an LF,
+    /// and with the last byte asked for if the bytes aren't whole scans. After an end no byte is taken.
     pub fn feed(&mut self, bytes: &[u8]) -> (usize, State)
         ensures reads { (text : List ℕ) → Stands self.old text → Reads self.old.asked result.1 (text ++ take result.0 bytes.now) self.new.body }
         ensures stands { (text : List ℕ) → Stands self.old text → Stands self.new (text ++ take result.0 bytes.now) }
@@ -127,7 +126,7 @@ impl Answer {
         (taken, self.state())
     }
 
-    /// What the bytes so far are.
+    /// Returns what the bytes are so far.
     pub fn state(&self) -> State
         ensures { result ≡ state_of self.now.place }
     {
@@ -139,7 +138,7 @@ impl Answer {
         }
     }
 
-    // Takes some bytes, and says how many.
+    // Takes some bytes, and returns their number.
     fn take(&mut self, bytes: &[u8]) -> usize
         requires some { 1 ≤ length bytes.now }
         requires more { state_of self.old.place ≡ State.More }
@@ -156,7 +155,7 @@ impl Answer {
         1
     }
 
-    // Takes bytes of a block.
+    // Takes bytes of a block, and returns their number.
     fn take_data(&mut self, missing: u32, bytes: &[u8]) -> usize
         requires some { 1 ≤ length bytes.now }
         requires place { self.old.place ≡ Place.Data missing }
@@ -200,7 +199,7 @@ impl Answer {
         self.line.clear();
     }
 
-    // The place after the line that ends.
+    // Returns the place after the line that ends.
     fn after_line(&self) -> Place
         requires more { state_of self.now.place ≡ State.More }
         requires line { (missing : ℕ) → self.now.place ≡ Place.Data missing → ⊥ }
@@ -214,7 +213,7 @@ impl Answer {
     }
 }
 
-// Appends bytes in the room that is there for them.
+// Appends bytes, for which there is room.
 fn keep(body: &mut Vec<u8>, bytes: &[u8])
     requires { length body.old.items + length bytes.now ≤ vec_capacity body.old }
     ensures items { body.new.items ≡ body.old.items ++ bytes.now }
@@ -223,7 +222,7 @@ fn keep(body: &mut Vec<u8>, bytes: &[u8])
     let _ = body.extend_from_slice(bytes);
 }
 
-// The length of a block that a line says, where there is room for it.
+// Returns the length of a block that a line gives, if there is room for that block.
 fn fitting_length(line: &[u8], room: u32) -> Option<u32>
     ensures some { IfSome result (λ n. (number_of line.now ≡ Some n) × (1 ≤ n) × (n ≤ room)) }
     ensures none { IfNone result ((n : ℕ) → number_of line.now ≡ Some n → 1 ≤ n → n ≤ room → ⊥) }
@@ -239,7 +238,7 @@ fn fitting_length(line: &[u8], room: u32) -> Option<u32>
     }
 }
 
-// What a line in the place of a length line does, after these data bytes.
+// Returns the place after a line where a length line is due; `body` are the data bytes so far.
 fn after_length(line: &[u8], asked: u32, body: &[u8], size: u32) -> Place
     requires size { 1 ≤ size }
     requires open { length body.now < asked }
@@ -264,7 +263,7 @@ fn after_length(line: &[u8], asked: u32, body: &[u8], size: u32) -> Place
     }
 }
 
-// What a line in the place of the mask's does, after a length line of `n`.
+// Returns the place after a line where the mask's line is due; the length line before it gave `n`.
 fn after_mask(line: &[u8], mask: Mask, channels: u32, n: u32) -> Place
     requires some { 1 ≤ channels }
     requires few { channels ≤ 64 }
@@ -281,7 +280,7 @@ fn after_mask(line: &[u8], mask: Mask, channels: u32, n: u32) -> Place
     }
 }
 
-// The place after some bytes of a block, of which `left` are still to come; `body` are the data bytes so far.
+// Returns the place after some bytes of a block, of which `left` are still to come; `body` are the data bytes so far.
 fn after_bytes(left: u32, asked: u32, body: &[u8], size: u32) -> Place
     requires size { 1 ≤ size }
     requires within { length body.now + left ≤ asked }
@@ -293,7 +292,7 @@ fn after_bytes(left: u32, asked: u32, body: &[u8], size: u32) -> Place
     after_block(asked, body, size)
 }
 
-// What the end of a block does, where these are the data bytes.
+// Returns the place after the end of a block; `body` are the data bytes.
 fn after_block(asked: u32, body: &[u8], size: u32) -> Place
     requires size { 1 ≤ size }
     requires within { length body.now ≤ asked }
@@ -309,8 +308,8 @@ fn after_block(asked: u32, body: &[u8], size: u32) -> Place
     Place::Malformed
 }
 
-/// The law that a text has one reading: a text that is ended says nothing else, and none that goes on after it says
-/// anything. So `feed` answers an end exactly at the last byte of an answer, of a refusal, or of what begins neither. The call
+/// The law that a text has one reading: a text that has ended has no other reading, and no longer text that begins with it
+/// has any. So `feed` returns an end exactly at the last byte of an answer, of a refusal, or of what begins neither. The call
 /// does nothing.
 #[tactic(auto, using(crate::proofs::Machine::one_reading))]
 pub fn one_reading()

@@ -1,4 +1,4 @@
-//! The reading of a device.
+//! Reads a device over a link.
 
 ghost use Rattle.std.specs.Prelude.{◌≡◌, ◌⊎◌, ℕ, ◌+◌, ◌*◌, ◌^◌, ◌<◌, ◌≤◌, ◌++◌, [], List, Option, None, length, OnOk, OnErr, IfOk, IfErr, IfSome};
 ghost use Rattle.iio_layout.specs.Layout.{scan_size};
@@ -25,10 +25,10 @@ use iio_layout::{Shape, scan_size};
 use iio_mask::Mask;
 use std::alloc::Global;
 
-/// The most scans that one READBUF asks for.
+/// The maximum number of scans that one READBUF asks for.
 pub const MOST_SCANS: u32 = 64;
 
-// Sends all of `bytes`. Where a send fails, a front part was sent.
+// Sends all of `bytes`. If a send fails, a front part was sent.
 fn send_all<L: Link>(link: &mut L, bytes: &[u8]) -> Result<(), ClientEnd>
     ensures sends { OnOk result (Wrote (L.written link.old) bytes.now (L.written link.new)) }
     ensures part { OnErr result (WroteFront (L.written link.old) bytes.now (L.written link.new)) }
@@ -42,7 +42,7 @@ fn send_all<L: Link>(link: &mut L, bytes: &[u8]) -> Result<(), ClientEnd>
     }
 }
 
-// Prints all of `bytes`. Where a write fails, a front part was printed.
+// Prints all of `bytes`. If a write fails, a front part was printed.
 fn print_all<K: Sink>(output: &mut K, bytes: &[u8]) -> Result<(), ClientEnd>
     ensures prints { OnOk result (Wrote (K.written output.old) bytes.now (K.written output.new)) }
     ensures part { OnErr result (WroteFront (K.written output.old) bytes.now (K.written output.new)) }
@@ -86,7 +86,7 @@ fn exchange_scans<L: Link>(
     hear_answer(link, incoming, answer)
 }
 
-// Prints a scan's line, which is put together in `line`.
+// Prints a scan's line; it is put together in `line`.
 fn print_scan<K: Sink>(
     output: &mut K,
     line: &mut Vec<u8>,
@@ -131,7 +131,7 @@ fn print_scans<K: Sink>(
     Ok(())
 }
 
-// The bytes that are asked for where `got` scans came before.
+// Returns the number of bytes to ask for after `got` scans.
 fn batch_of(ask: &Ask<'_>, got: u32, size: u32) -> u32
     requires ask { IsAsk (wanted_by ask.now) }
     requires size { size ≡ size_for (wanted_by ask.now) }
@@ -145,7 +145,7 @@ fn batch_of(ask: &Ask<'_>, got: u32, size: u32) -> u32
     size * MOST_SCANS.min(ask.scans - got)
 }
 
-// The size of a scan.
+// Returns the size of a scan.
 fn size_of(ask: &Ask<'_>) -> u32
     requires ask { IsAsk (wanted_by ask.now) }
     ensures value { result ≡ size_for (wanted_by ask.now) }
@@ -156,7 +156,7 @@ fn size_of(ask: &Ask<'_>) -> u32
     scan_size(ask.shape, ask.mask)
 }
 
-// An answer to what is asked for where `got` scans came before; nothing of it came yet.
+// Makes the answer that is awaited after `got` scans; nothing of it has come yet.
 fn new_batch(alloc: Global, ask: &Ask<'_>, got: u32) -> Result<Answer, Mem>
     requires ask { IsAsk (wanted_by ask.now) }
     requires more { got < ask.now.scans }
@@ -168,7 +168,7 @@ fn new_batch(alloc: Global, ask: &Ask<'_>, got: u32) -> Result<Answer, Mem>
     Answer::new(alloc, bytes, ask.mask, ask.shape.count(), size)
 }
 
-// Asks for further scans where `got` came before, prints them, and says how many they are.
+// Asks for further scans after `got` scans, prints them, and returns their number.
 fn read_batch<L: Link, K: Sink>(
     alloc: Global,
     link: &mut L,
@@ -194,7 +194,7 @@ fn read_batch<L: Link, K: Sink>(
     Ok((answer.body().len() / size as usize) as u32)
 }
 
-// Reads and prints all scans that are wanted, from a device that was opened.
+// Reads and prints all wanted scans of a device that was opened.
 fn read_all<L: Link, K: Sink>(
     alloc: Global,
     link: &mut L,
@@ -216,7 +216,7 @@ fn read_all<L: Link, K: Sink>(
     Ok(())
 }
 
-// Opens the device, and reads all scans that are wanted.
+// Opens the device, and reads all wanted scans.
 fn open_and_read<L: Link, K: Sink>(
     alloc: Global,
     link: &mut L,
@@ -236,7 +236,7 @@ fn open_and_read<L: Link, K: Sink>(
     read_all(alloc, link, incoming, ask, output, line)
 }
 
-// Closes the device, and leaves.
+// Closes the device, and ends the connection with EXIT.
 fn close_and_leave<L: Link>(
     link: &mut L,
     incoming: &mut Incoming,
@@ -255,7 +255,7 @@ fn close_and_leave<L: Link>(
     send_all(link, line)
 }
 
-// Opens the device, reads all scans that are wanted, closes it, and leaves.
+// Opens the device, reads all wanted scans, closes it, and ends the connection with EXIT.
 fn talk<L: Link, K: Sink>(
     alloc: Global,
     link: &mut L,
@@ -290,7 +290,7 @@ fn print_refused<K: Sink>(output: &mut K, line: &mut Vec<u8>, number: u32) -> Cl
     }
 }
 
-// Ends a talk that broke off: a refusal is printed.
+// Ends a talk that broke off: if the reason is a refusal, it is printed.
 fn end_with<K: Sink>(output: &mut K, line: &mut Vec<u8>, end: ClientEnd) -> ClientEnd
     ensures ends { (w : Wanted) (a : Point) (left : Option (List ℕ)) (pending : List ℕ) (sent : Option (List ℕ))
         → Breaks w end a (point left pending sent (K.written output.old)) →
@@ -307,10 +307,10 @@ fn end_with<K: Sink>(output: &mut K, line: &mut Vec<u8>, end: ClientEnd) -> Clie
 /// Reads the scans of a device over a link, and prints a line for each: its bytes in hexadecimal, and the values of the
 /// selected channels.
 ///
-/// It sends OPEN, then READBUF for at most `MOST_SCANS` scans at a time until all that are wanted came, then CLOSE and EXIT,
-/// and awaits the answer to each line but EXIT before it sends the next. Scans are printed once the answer that brought them
-/// is whole. Where a refusal comes, `refused -N` is printed and nothing more is sent. No memory is taken for a scan: its line
-/// is put together in a buffer that all share, and an answer has one for all its bytes.
+/// It sends OPEN, then READBUF for at most `MOST_SCANS` scans at a time until all wanted scans have come, then CLOSE and
+/// EXIT. It awaits the answer to each line but EXIT before it sends the next. Scans are printed once the answer that brought
+/// them is whole. If a refusal comes, `refused -N` is printed and nothing more is sent. No memory is taken for a scan: its
+/// line is put together in a buffer that all share, and an answer has one for all its bytes.
 pub fn read_device<L: Link, K: Sink>(
     alloc: Global,
     link: &mut L,
@@ -318,11 +318,11 @@ pub fn read_device<L: Link, K: Sink>(
     output: &mut K,
 ) -> ClientEnd
     requires { IsAsk (wanted_by ask.now) }
-    // What was heard, sent and printed; `pending` was received, and stands after what was heard.
+    // What was heard, sent and printed; `pending` was received, and comes after what was heard.
     ensures ends { (pending : List ℕ) × Ends (wanted_by ask.now) result
         (point (L.left link.old) [] (L.written link.old) (K.written output.old)) (point (L.left link.new) pending (L.written link.new) (K.written output.new)) }
     ensures faults { Faults result (L.faults link.old) (L.faults link.new) (K.faults output.old) (K.faults output.new) }
-    // Over a link that tells its bytes the end is the one that they come to, unless a call fails or memory runs out.
+    // Over a visible link the end is the one that its bytes come to, unless a call fails or memory runs out.
     ensures exact { IfSome (L.left link.old) (λ bytes. EndsBy (wanted_by ask.now) bytes result) }
 {
     let mut incoming = Incoming::new();

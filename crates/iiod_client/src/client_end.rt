@@ -7,7 +7,7 @@ use iio_base::Mem;
 /// How a reading of a device ended.
 #[derive(Clone, Copy, Debug, PartialEq, Eq)]
 pub enum ClientEnd {
-    /// All scans that were wanted came and were printed, and the server confirmed the end.
+    /// All wanted scans came and were printed, and the server confirmed the end.
     Done,
     /// The server refused a command by this negative number.
     Refused(u32),
@@ -17,7 +17,7 @@ pub enum ClientEnd {
     WriteFault,
     /// Memory ran out.
     Memory,
-    /// What came is no answer.
+    /// What came isn't an answer.
     Malformed,
     /// The link ended before an answer's end.
     Cut,

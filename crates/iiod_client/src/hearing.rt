@@ -13,7 +13,7 @@ use crate::line::{MAX_LINE, read_refusal};
 use arrayvec::ArrayVec;
 use iio_io::Link;
 
-// What the line of a plain answer says.
+// Returns what the line of a plain answer means.
 fn plain_end(line: &[u8]) -> Result<(), ClientEnd>
     ensures { SaysPlain line.now result }
 {
@@ -26,7 +26,7 @@ fn plain_end(line: &[u8]) -> Result<(), ClientEnd>
     }
 }
 
-/// Hears a plain answer: the line `0`, or a refusal.
+/// Receives a plain answer: the line `0`, or a refusal.
 pub(crate) fn hear_plain<L: Link>(link: &mut L, incoming: &mut Incoming) -> Result<(), ClientEnd>
     ensures hears { Hears Plain [] result (point (L.left link.old) incoming.old None None) (point (L.left link.new) incoming.new None None) }
     ensures written { L.written link.new ≡ L.written link.old }
@@ -44,7 +44,7 @@ pub(crate) fn hear_plain<L: Link>(link: &mut L, incoming: &mut Incoming) -> Resu
     }
 }
 
-/// Hears an answer to READBUF, of which nothing came.
+/// Receives an answer to READBUF, of which nothing has come yet.
 pub(crate) fn hear_answer<L: Link>(
     link: &mut L,
     incoming: &mut Incoming,

@@ -1,4 +1,4 @@
-//! Bytes that were received, and not looked at yet.
+//! Bytes that were received, but not yet looked at.
 
 ghost use Rattle.std.specs.Prelude.{◌≡◌, ℕ, ◌-◌, ◌≤◌, List, [], ◌∷◌, length, take, drop, None, Err, IfOk, IfErr, OnOk, OnErr};
 ghost use Rattle.iiod_client.specs.Exchange.{FaultsOf, IsLinkEnd};
@@ -8,7 +8,7 @@ use crate::client_end::ClientEnd;
 use iio_io::Link;
 use std::marker::Model;
 
-// The most bytes that one receive asks for.
+// The maximum number of bytes that one receive asks for.
 const PIECE: usize = 4_096;
 
 /// The bytes of the last receive that weren't looked at yet.
@@ -30,7 +30,7 @@ impl Model for Incoming {
 }
 
 impl Incoming {
-    /// Nothing was received.
+    /// Makes one that has received nothing.
     pub(crate) fn new() -> Incoming
         ensures { result ≡ [] }
     {
@@ -41,14 +41,14 @@ impl Incoming {
         }
     }
 
-    /// The bytes that weren't looked at yet.
+    /// Returns the bytes that weren't looked at yet.
     pub(crate) fn pending(&self) -> &[u8]
         ensures { result.now ≡ self.now }
     {
         &self.piece[self.from..self.until]
     }
 
-    /// `count` more of them were looked at.
+    /// Marks `count` more of the bytes as looked at.
     pub(crate) fn skip(&mut self, count: usize)
         requires { count ≤ length self.old }
         ensures { self.new ≡ drop count self.old }
@@ -56,7 +56,7 @@ impl Incoming {
         self.from += count;
     }
 
-    /// Receives further bytes where all were looked at. `Cut` comes where none comes any more.
+    /// Receives further bytes, after all were looked at. `Cut` if none will come.
     pub(crate) fn refill<L: Link>(&mut self, link: &mut L) -> Result<(), ClientEnd>
         requires { self.old ≡ [] }
         ensures heard { Heard (point (L.left link.old) [] None None) [] (point (L.left link.new) self.new None None) }
@@ -77,7 +77,7 @@ impl Incoming {
         Ok(())
     }
 
-    /// Sees that there is a byte to look at.
+    /// Ensures that there is a byte to look at.
     pub(crate) fn fill<L: Link>(&mut self, link: &mut L) -> Result<(), ClientEnd>
         ensures heard { Heard (point (L.left link.old) self.old None None) [] (point (L.left link.new) self.new None None) }
         ensures some { OnOk result (1 ≤ length self.new) }
@@ -91,7 +91,7 @@ impl Incoming {
         Ok(())
     }
 
-    /// The next byte.
+    /// Returns the next byte.
     pub(crate) fn next_byte<L: Link>(&mut self, link: &mut L) -> Result<u8, ClientEnd>
         ensures heard { IfOk result (λ b. Heard (point (L.left link.old) self.old None None) (b ∷ []) (point (L.left link.new) self.new None None)) }
         ensures none { OnErr result (Heard (point (L.left link.old) self.old None None) [] (point (L.left link.new) self.new None None)) }

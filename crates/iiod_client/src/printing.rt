@@ -18,7 +18,7 @@ use iio_scan_type::ScanType;
 use iio_text::push_hex;
 use itoa::Buffer;
 
-/// The digits of a number.
+/// Appends the digits of a number.
 pub(crate) fn push_digits(out: &mut Vec<u8>, number: u32) -> Result<(), Mem>
     ensures { OnOk result (out.new.items ≡ out.old.items ++ decimal number) }
 {
@@ -27,7 +27,7 @@ pub(crate) fn push_digits(out: &mut Vec<u8>, number: u32) -> Result<(), Mem>
     Ok(())
 }
 
-// The value of element `k` of a channel, in decimal.
+// Appends the value of element `k` of a channel, in decimal.
 fn push_element(out: &mut Vec<u8>, ty: &ScanType, bytes: &[u8], k: u32) -> Result<(), Mem>
     requires size { length bytes.now ≡ size_of ty.now }
     requires element { k < ty.now.repeat }
@@ -39,7 +39,7 @@ fn push_element(out: &mut Vec<u8>, ty: &ScanType, bytes: &[u8], k: u32) -> Resul
     Ok(())
 }
 
-// The ID of a channel.
+// Appends the ID of a channel.
 fn push_name(out: &mut Vec<u8>, shape: &Shape, c: u32) -> Result<(), Mem>
     ensures { OnOk result (out.new.items ≡ out.old.items ++ channel_name shape.now c) }
 {
@@ -51,7 +51,7 @@ fn push_name(out: &mut Vec<u8>, shape: &Shape, c: u32) -> Result<(), Mem>
     Ok(())
 }
 
-// The elements of a channel, with `,` between.
+// Appends the elements of a channel, with `,` between them.
 fn push_elements(out: &mut Vec<u8>, ty: &ScanType, bytes: &[u8]) -> Result<(), Mem>
     requires { length bytes.now ≡ size_of ty.now }
     ensures { OnOk result (out.new.items ≡ out.old.items ++ elements_text ty.now bytes.now ty.now.repeat) }
@@ -82,7 +82,7 @@ fn push_field(out: &mut Vec<u8>, shape: &Shape, mask: Mask, scan: &[u8], c: u32)
     Ok(())
 }
 
-// The selected channels' values.
+// Appends the fields of the selected channels.
 fn push_fields(out: &mut Vec<u8>, shape: &Shape, mask: Mask, scan: &[u8]) -> Result<(), Mem>
     requires below { mask.bits < 2 ^ count_of shape.now }
     requires size { length scan.now ≡ scan_size shape.now mask.bits }
@@ -96,7 +96,7 @@ fn push_fields(out: &mut Vec<u8>, shape: &Shape, mask: Mask, scan: &[u8]) -> Res
     Ok(())
 }
 
-/// A scan's line: its bytes in hexadecimal, and for each selected channel ` ID=VALUES`.
+/// Puts a scan's line into `out`: its bytes in hexadecimal, and ` ID=VALUES` for each selected channel.
 pub(crate) fn put_scan(out: &mut Vec<u8>, shape: &Shape, mask: Mask, scan: &[u8]) -> Result<(), Mem>
     requires below { mask.bits < 2 ^ count_of shape.now }
     requires size { length scan.now ≡ scan_size shape.now mask.bits }

@@ -1,4 +1,4 @@
-//! What a connection is answered, and what a client makes of that. Expected texts by hand.
+//! The answers to a connection, and what a client makes of them. The expected texts were written by hand.
 
 mod readdev_words;
 mod readings;

@@ -1,4 +1,4 @@
--- What was heard of a link so far, and at its end.
+-- What was heard over a link so far, and at its end.
 use Rattle.std.proofs.Common.{◌≡◌, ℕ, List, [], ◌++◌, take, drop, Option, Some, None, IfSome, Err, Ok, refl, sym, ap, subst, ◌∙◌, append_assoc}
 use Rattle.std.specs.Prelude.{⊤}
 use Rattle.iio_io.specs.Bytes.{Takes}
@@ -21,7 +21,7 @@ so_none front a left written = record { heard = []; sends = sends_none front a w
 took : (more piece : List ℕ) (n : ℕ) (mid new : Option (List ℕ)) → mid ≡ Some more → IfSome mid (λ xs. Takes xs piece n new) → Takes more piece n new
 took more piece n mid new e t = subst (λ (o : Option (List ℕ)). IfSome o (λ xs. Takes xs piece n new)) e t
 
--- a recv more
+-- one more recv
 cut_more_of : (left mid right : Option (List ℕ)) (heard piece : List ℕ) (n : ℕ) → IsCut left heard mid → IfSome mid (λ xs. Takes xs piece n right)
     → IsCut left (heard ++ take n piece) right
 cut_more_of None mid right heard piece n c t = tt
@@ -47,7 +47,7 @@ so_more front front2 a m b left written mid mid2 right right2 new new2 piece n o
       cut = subst (λ (o : Option (List ℕ)). IsCut left (s.heard ++ take n piece) o) (sym f) (cut_more_of left mid right s.heard piece n s.cut t);
     }
 
--- a front part of what came was heard
+-- a prefix of what came was heard
 hears_front : (left right : Option (List ℕ)) (bytes p q : List ℕ) → bytes ≡ p ++ q → IsCut left bytes right
     → IfSome left (λ xs. (more : List ℕ) × (xs ≡ p ++ more))
 hears_front None right bytes p q f c = tt

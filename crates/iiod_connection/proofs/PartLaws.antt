@@ -1,4 +1,4 @@
--- A part makes few items whole.
+-- A part completes few items.
 use Rattle.std.proofs.Common.{◌≡◌, ℕ, suc, ◌+◌, ◌<◌, ◌≤◌, ◌==◌, nat_lt, Bool, true, false, List, [], ◌∷◌, ◌++◌, length, take, Option, Some, Result, Ok, refl, sym, subst, arith, if◌then◌else◌}
 use Rattle.std.proofs.lemmas.List.{length-append}
 use Rattle.std.specs.List.{position_or_len}
@@ -75,7 +75,7 @@ last (InLine begun) b =
 last (InPayload pending count begun) b = let p = payload_items pending count (begun ++ b ∷ []) in omega (arith, p)
 last AtEnd b = let p : 0 ≤ 0 = omega arith in p
 
--- a byte that is no LF
+-- a byte that isn't LF
 step : (s : Scanner) (b : ℕ) → (b == 10) ≡ false → all_of (after_byte s b) ≤ weight s
 step (InLine begun) b e =
     let long : Scanned = if nat_lt (length begun) MAX_LINE then no_item (InLine (begun ++ b ∷ [])) else ended_by (Some E2BIG) in

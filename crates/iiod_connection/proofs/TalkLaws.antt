@@ -33,7 +33,7 @@ pub talk_more : (front : Front) (a b : Place) (h x bytes text : List ℕ) (going
     → Talks front a (h ++ bytes) (x ++ text) c
 talk_more front a b h x bytes text going c t f = record { feeds = suc t.feeds; talk = (b, h, x, bytes, text, going, t.talk, refl, refl, f) }
 
--- what was written, and then more
+-- what was written, followed by more
 pub wrote_more : (old mid new : Option (List ℕ)) (x text : List ℕ) → Wrote old x mid → Wrote mid text new → Wrote old (x ++ text) new
 wrote_more None mid new x text w v = tt
 wrote_more (Some ys) mid new x text w v =
@@ -177,7 +177,7 @@ turns_on front front2 a m b bytes old mid new (Err e) same t v =
 up_to : (bytes : List ℕ) (done end : ℕ) → done ≤ end → take end bytes ≡ take done bytes ++ take (end - done) (drop done bytes)
 up_to bytes done end few = ap (λ n. take n bytes) (omega arith) ∙ take-add done (end - done) bytes
 
--- a part more
+-- one more part
 pub part_more : (front front2 : Front) (a m b : Place) (bytes : List ℕ) (done until : ℕ) (old mid new : Option (List ℕ)) (once : ⊤) → front2 ≡ front
     → done ≤ until
     → SendsAll front a (take done bytes) old m mid → Turns front2 m (take (until - done) (drop done bytes)) mid b new (Ok once)

@@ -1,4 +1,4 @@
--- Feeds in whatever parts are answers to the items of the whole.
+-- The answers to feeds in whatever parts are the answers to the items of the whole.
 use Rattle.std.proofs.Common.{inl, inr, ◌≡◌, Option, Some, None, IfSome, ℕ, zero, suc, List, [], ◌++◌, refl, sym, ap, subst, ◌∙◌, append_assoc}
 use Rattle.std.specs.Prelude.{◌⊎◌}
 use Rattle.std.specs.List.{flat_map}
@@ -123,7 +123,7 @@ sends_nothing : (written : Option (List ℕ)) → Sends Memory written [] writte
 sends_nothing None = tt
 sends_nothing (Some ys) = ap (λ (zs : List ℕ). Some zs) (sym (append_nil ys))
 
--- where memory ran out before anything was heard
+-- if memory ran out before anything was heard
 pub nothing_heard : (front : Front) (a : Place) (left written : Option (List ℕ)) → Ends (Answers front a) Memory left written left written a
 nothing_heard front a left written = record {
   heard = [];
@@ -141,7 +141,7 @@ closed_by front Ended c b told last s = subst (λ (p : Place). IsClosed front En
 closed_by front LinkFault c b told last s = subst (λ (p : Place). IsClosed front LinkFault p told) (sym last) s
 closed_by front Memory c b told last s = tt
 
--- a new session stands where nothing was heard of it
+-- a new session stands where nothing has been heard
 pub is_first_place : {S : Type 0} (seen : S → SeatRecord) (told : Option Machine) (who : ℕ) (s : SessionRecord S) → IsFresh who Server s
     → place_of seen told s ≡ first_place who told
 is_first_place {S} seen told who s f =

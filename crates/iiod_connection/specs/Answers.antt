@@ -1,5 +1,5 @@
--- What a connection is answered in all, however its bytes were cut: each item of its stream once, in order. (This project's
--- own, over what a session answers an item.)
+-- All that a connection is answered, however its bytes were cut: each item of its stream once, in order. (This project's own,
+-- over what a session answers an item.)
 use Rattle.std.specs.Prelude.{◌≡◌, ◌⊎◌, ℕ, zero, suc, ◌++◌, List, []}
 use Rattle.std.specs.List.{flat_map}
 use Rattle.iio_text.specs.declared.errors.Errno.TheVariants.{EAGAIN}
@@ -27,7 +27,7 @@ Runs (suc n) front a items replies b =
     (mid : State) × (i : List Item) × (r : List Reply) × (next : State) × (j : List Item) × (s : List Reply)
     × Runs n front a i r mid × Run Server front mid j s next × ((b ≡ next) ⊎ FindsNothing front next b) × (items ≡ i ++ j) × (replies ≡ r ++ s)
 
--- of all that was heard: the items that are whole, but for those that are left, were answered, and this was said
+-- of all that was heard: the whole items, except those that are left, were answered, and `said` is the bytes of their answers
 pub record Answers (front : Front) (a : Place) (heard said : List ℕ) (b : Place) : Type 0 where
   pub runs : ℕ
   pub items : List Item

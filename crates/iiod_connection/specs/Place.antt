@@ -6,7 +6,7 @@ use Rattle.iiod_session.specs.Run.{State, state_of}
 use Rattle.iiod_session.specs.Seat.{SeatRecord}
 use Rattle.iiod_session.specs.Session.{SessionRecord}
 
--- what stands at the devices, what the connection has of them, and where its stream stands
+-- the state of the devices, what the connection has open there, and where its stream stands
 pub record Place : Type 0 where
   pub state : State
   pub stream : Scanned
@@ -15,7 +15,7 @@ pub record Place : Type 0 where
 abbrev pub place_of : {S : Type 0} → (S → SeatRecord) → Option Machine → SessionRecord S → Place
 place_of seen told s = record { state = state_of seen told s.client; stream = s.stream }
 
--- the place of a connection of which nothing was heard yet: it has nothing of the devices
+-- the place of a connection before anything was heard: it has nothing open at the devices
 abbrev pub first_place : ℕ → Option Machine → Place
 first_place who told = record {
   state = record { told = told; client = record { who = who; seats = []; buffers = []; holdings = [] }; traces = [] };

@@ -13,37 +13,37 @@ use Rattle.iiod_connection.specs.declared.session_end.SessionEnd.TheVariants.{Eo
 use Rattle.iiod_connection.specs.Place.{Place}
 use Rattle.iiod_connection.specs.SessionEnd.{EndFaults, WritesFront}
 
--- one feed more, of these bytes: none where a READBUF that waits is tried again. What it appends are the answers
+-- one more feed, of these bytes: none if a READBUF that waits is tried again. What it appends are the answers
 pub record FeedsOnce (front : Front) (a : Place) (bytes text : List ℕ) (going : Going) (b : Place) : Type 0 where
   pub feeds : Feeds Server front a.state (scan_on a.stream bytes) [] text b.state b.stream going
 
--- n feeds, one after another: what was heard in order, and what they said in order
+-- n feeds, one after another: the bytes heard, in order, and the bytes of their answers, in order
 abbrev pub Talk : ℕ → Front → Place → (heard said : List ℕ) → Place → Type 0
 Talk zero front a heard said b = (heard ≡ []) × (said ≡ []) × (b ≡ a)
 Talk (suc k) front a heard said b =
     (mid : Place) × (h : List ℕ) × (x : List ℕ) × (bytes : List ℕ) × (text : List ℕ) × (going : Going)
     × Talk k front a h x mid × (heard ≡ h ++ bytes) × (said ≡ x ++ text) × FeedsOnce front mid bytes text going b
 
--- some feeds
+-- any number of feeds
 pub record Talks (front : Front) (a : Place) (heard said : List ℕ) (b : Place) : Type 0 where
   pub feeds : ℕ
   pub talk : Talk feeds front a heard said b
 
--- what was appended is written, where it is told
+-- what was appended is written, if the link tells it
 abbrev pub Wrote : Option (List ℕ) → List ℕ → Option (List ℕ) → Type 0
 Wrote old text new = IfSome old (λ ys. new ≡ Some (ys ++ text))
 
--- a front part of it is
+-- ... or a prefix of it is
 abbrev pub WrotePart : Option (List ℕ) → List ℕ → Option (List ℕ) → Type 0
 WrotePart old text new = IfSome old (λ ys. WritesFront ys text new)
 
--- after a feed each item that is whole was answered, or the connection waits at a device that is there, or it is at its end
+-- after a feed each whole item was answered, or the connection waits at a device that is there, or it is at its end
 abbrev pub StandsBy : Front → Going → Place → Type 0
 StandsBy front On b = b.stream.items ≡ []
 StandsBy front (Waits dev) b = dev < length front.devices
 StandsBy front going.Ended b = b.stream ≡ no_item AtEnd
 
--- one feed whose answers were sent, or why they weren't
+-- one feed whose answers were sent, or the reason why they weren't
 abbrev pub SendsOnce : Front → Place → (bytes : List ℕ) → Option (List ℕ) → Place → Option (List ℕ) → Result Going SessionEnd → Type 0
 SendsOnce front a bytes old b new (Ok going) = (text : List ℕ) × FeedsOnce front a bytes text going b × Wrote old text new × StandsBy front going b
 SendsOnce front a bytes old b new (Err LinkFault) = (text : List ℕ) × (going : Going) × FeedsOnce front a bytes text going b × WrotePart old text new
@@ -51,13 +51,13 @@ SendsOnce front a bytes old b new (Err Memory) = new ≡ old
 SendsOnce front a bytes old b new (Err Eof) = ⊥
 SendsOnce front a bytes old b new (Err Ended) = ⊥
 
--- these bytes were fed, in whatever parts, and all that they were answered was sent
+-- these bytes were fed, in whatever parts, and all answers to them were sent
 pub record SendsAll (front : Front) (a : Place) (bytes : List ℕ) (old : Option (List ℕ)) (b : Place) (new : Option (List ℕ)) : Type 0 where
   pub said : List ℕ
   pub talks : Talks front a bytes said b
   pub wrote : Wrote old said new
 
--- bytes that were fed until each item that is whole was answered, and all answers sent; or how far it came
+-- bytes that were fed until each whole item was answered, and all answers sent; or how far this came
 abbrev pub Turns : Front → Place → (bytes : List ℕ) → Option (List ℕ) → Place → Option (List ℕ) → Result ⊤ SessionEnd → Type 0
 Turns front a bytes old b new (Ok done) = SendsAll front a bytes old b new × (b.stream.items ≡ [])
 Turns front a bytes old b new (Err Ended) =
@@ -73,17 +73,17 @@ abbrev pub Faults : {A : Type 0} → Result A SessionEnd → ℕ → ℕ → Typ
 Faults (Ok x) old new = new ≡ old
 Faults (Err end) old new = EndFaults end old new
 
--- of the bytes that came over the link these were heard, and the others are left, where it tells them
+-- of the bytes that came over the link these were heard, and the others are left, if the link tells them
 abbrev pub IsCut : (left : Option (List ℕ)) → (heard : List ℕ) → (left' : Option (List ℕ)) → Type 0
 IsCut left heard left' = IfSome left (λ xs. (more : List ℕ) × (xs ≡ heard ++ more) × (left' ≡ Some more))
 
--- a link of which some was heard, and all that this was answered sent
+-- a link of which some bytes were heard, and all their answers sent
 pub record SoFar (front : Front) (a : Place) (left written : Option (List ℕ)) (b : Place) (left' written' : Option (List ℕ)) : Type 0 where
   pub heard : List ℕ
   pub sends : SendsAll front a heard written b written'
   pub cut : IsCut left heard left'
 
--- the place of which an end speaks is the last one; where memory ran out in a feed, it is the one before
+-- the place that an end speaks of is the last one; if memory ran out in a feed, it is the one before
 abbrev pub IsLast : SessionEnd → Place → Place → Type 0
 IsLast Memory c b = Unit {0}
 IsLast end c b = c ≡ b

@@ -1,4 +1,4 @@
-//! One connection of the server: what comes over a link is fed to a session, and what that answers is sent.
+//! One connection of the server: what is received over a link is fed to a session, and the session's answers are sent.
 #![tactic(auto)]
 
 mod serve;

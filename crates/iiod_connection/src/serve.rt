@@ -1,4 +1,4 @@
-//! A connection served over a link.
+//! Serves a connection over a link.
 
 ghost use Rattle.std.specs.Prelude.{◌≡◌, ◌<◌, ◌≤◌, ◌+◌, ◌++◌, drop, [], length, Some, IfSome, IfOk, OnOk};
 ghost use Rattle.iiod_session.specs.Client.{IsClient};
@@ -20,7 +20,7 @@ use std::sync::Wait;
 // The most bytes that one receive asks for.
 const PIECE: usize = 4_096;
 
-// Feeds bytes, and sends their answers whole.
+// Feeds bytes, and sends all of their answers.
 fn feed_and_send<L: Link, B: Bells>(
     alloc: Global,
     session: &mut Session<B::Seat>,
@@ -49,14 +49,15 @@ fn feed_and_send<L: Link, B: Bells>(
     Ok(going)
 }
 
-// What is kept from one part to the next: room for answers, and the bell that was waited for last, as it was before the last try.
+// The state carried from one part to the next: room for answers, and the last look at the bell that was waited for, taken
+// before the last try.
 #[derive(Drop)]
 struct Carried {
     out: Vec<u8>,
     look: Option<Look>,
 }
 
-// How often a device's bell had rung when it was looked at.
+// How often a device's bell had rung at a look at it.
 #[derive(Clone, Copy)]
 struct Look {
     dev: u32,
@@ -74,7 +75,7 @@ fn look_at<B: Bells>(iio: &B, dev: u32) -> Look
     }
 }
 
-// Looks once more at the bell that was looked at last.
+// Looks again at the bell that was looked at last.
 fn look_again<B: Bells>(iio: &B, look: Option<Look>) -> Option<Look>
     requires { IfSome look (λ l. l.dev < length (B.front (B.kept iio.now)).devices) }
     ensures { IfSome result (λ l. l.dev < length (B.front (B.kept iio.now)).devices) }
@@ -85,7 +86,7 @@ fn look_again<B: Bells>(iio: &B, look: Option<Look>) -> Option<Look>
     }
 }
 
-// Waits for the device's bell to ring again, where it was looked at before the try that found nothing.
+// Waits for the device's bell to ring again, if it was looked at before the try that found nothing.
 fn wait_for<B: Bells>(iio: &B, dev: u32, look: Option<Look>)
     requires { dev < length (B.front (B.kept iio.now)).devices }
 {
@@ -96,9 +97,9 @@ fn wait_for<B: Bells>(iio: &B, dev: u32, look: Option<Look>)
     }
 }
 
-// Tries a READBUF that waits again, each time that its device's bell has rung, until nothing waits. The bell is looked at before
-// each try, so that no scan that comes between the try and the wait is slept through. Where it wasn't looked at before the
-// first try, since another device was waited for last, the READBUF is tried once more before the wait.
+// Tries a READBUF that waits again, each time that its device's bell has rung, until nothing waits. The bell is looked at
+// before each try, so that a scan that comes between the try and the wait isn't slept through. If the bell wasn't looked at
+// before the first try, because another device was waited for last, the READBUF is tried once more before the wait.
 fn settle<L: Link, B: Bells, R: Wait>(
     rt: &R,
     alloc: Global,
@@ -135,7 +136,7 @@ fn settle<L: Link, B: Bells, R: Wait>(
     unreachable!()
 }
 
-// Feeds a part of what was received, sends its answers, and settles it.
+// Feeds a part of what was received, sends its answers, and tries again while a READBUF waits.
 fn hear<L: Link, B: Bells, R: Wait>(
     rt: &R,
     alloc: Global,
@@ -162,14 +163,14 @@ fn hear<L: Link, B: Bells, R: Wait>(
     settle(rt, alloc, session, iio, link, carried, going)
 }
 
-/// The law that a part makes at most two items whole, a payload and a line, wherever the stream stands; so its answers are at
-/// most two. The call does nothing.
+/// The law that a part completes at most two items, a payload and a line, wherever the stream stands; so it has at most two
+/// answers. The call does nothing.
 #[tactic(auto, using(crate::proofs::PartLaws::parts_are_short))]
 pub fn parts_are_short()
     ensures { PartsAreShort }
 {}
 
-// Where the part that begins at `from` ends: after its first LF, or with the bytes.
+// Returns where the part that begins at `from` ends: after its first LF, or at the end of the bytes.
 fn part_end(bytes: &[u8], from: usize) -> usize
     requires { from < length bytes.now }
     ensures more { from < result }
@@ -180,7 +181,7 @@ fn part_end(bytes: &[u8], from: usize) -> usize
     if lf < bytes.len() { lf + 1 } else { lf }
 }
 
-// What was heard is fed part by part, and each part is settled before the next one is fed.
+// Feeds the bytes received part by part; each part is settled before the next one is fed.
 fn turn<L: Link, B: Bells, R: Wait>(
     rt: &R,
     alloc: Global,
@@ -257,16 +258,16 @@ fn talk<L: Link, B: Bells, G: Gate, R: Wait>(
     unreachable!()
 }
 
-/// Serves connection number `who` over a link to its end, and closes what it has open then.
+/// Serves connection number `who` over a link to its end, and then closes what it has open.
 ///
-/// What is received is fed part by part, each up to its first LF, and what a part is answered is sent before the next part is
-/// fed. Where a READBUF waits, it is tried again each time that its device's bell has rung, and nothing more is fed until it
-/// is answered. The gate is passed at `Heard(who)` after each receive that gave bytes, and at `Answered(who)` once these bytes'
-/// answers were sent whole.
+/// What is received is fed part by part, each up to its first LF, and the answers to a part are sent before the next part is
+/// fed. If a READBUF waits, it is tried again each time that its device's bell has rung, and nothing more is fed until it is
+/// answered. The gate is passed at `Heard(who)` after each receive that returned bytes, and at `Answered(who)` after the
+/// answers to these bytes were sent completely.
 ///
-/// `Eof` comes at a receive of nothing: all that came was heard, and each whole command was answered. `Ended` comes with EXIT or
-/// a broken limit, after the answers up to there were sent. `LinkFault` comes where a receive or a send failed, and `Memory`
-/// where a session or its answer found no memory.
+/// `Eof` if a receive returned nothing: everything received was heard, and each whole command was answered. `Ended` after EXIT
+/// or a broken limit, when the answers up to there were sent. `LinkFault` if a receive or a send failed, and `Memory` if there
+/// was no memory for the session or an answer.
 pub fn serve_on<L: Link, B: Bells, G: Gate, R: Wait>(
     rt: &R,
     alloc: Global,

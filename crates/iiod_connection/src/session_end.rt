@@ -1,9 +1,9 @@
-//! How a connection ends.
+//! The ways in which a connection ends.
 
 /// How a connection ended.
 #[derive(Clone, Copy, Debug, PartialEq, Eq)]
 pub enum SessionEnd {
-    /// Nothing more came: the other end has closed the link.
+    /// Nothing more came: the other end closed the link.
     Eof,
     /// The client sent EXIT or broke a limit.
     Ended,

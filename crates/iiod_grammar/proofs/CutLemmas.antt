@@ -55,7 +55,7 @@ line_whole begun bytes e h is within some =
       size,
     ) refl
 
--- an LF at the begin of a line
+-- an LF at the beginning of a line
 pub line_blank : (begun bytes : List ℕ) → begun ≡ [] → 0 < length bytes → get_or bytes 0 0 ≡ 10 → cut None (begun ++ bytes) ≡ WholeLine begun (length begun + 1)
 line_blank begun bytes none some lf = rw none (line_whole [] bytes 0 refl (first bytes some lf) (omega arith) some)
   where
@@ -78,14 +78,14 @@ front_short [] (suc n) h = refl
 front_short (x ∷ xs) zero h = absurd (omega arith)
 front_short (x ∷ xs) (suc n) h = front_step (is_lf x) (position_or_len is_lf (take n xs)) (position_or_len is_lf xs) n h (front_short xs n)
 
--- where it isn't after them, or they are all
+-- ... if it isn't after them, or they are all
 pub front_place : (xs : List ℕ) (n end : ℕ) → end ≡ position_or_len is_lf (take n xs) → (n ≤ end → length xs ≤ n) → position_or_len is_lf xs ≡ end
 front_place xs n end is more = elim (cases_lt end n) [
   | inl short ↦ front_short xs n (omega (arith, is, short)) ∙ sym is
   | inr past ↦ ap (position_or_len is_lf) (sym (take_all n xs (more past))) ∙ sym is
 ]
 
--- it is never after the first one of all
+-- it is never after the first LF of all bytes
 pub front_before : (xs : List ℕ) (n : ℕ) → position_or_len is_lf (take n xs) ≤ position_or_len is_lf xs
 front_before xs n =
     subst (λ (t : List ℕ). position_or_len is_lf (take n xs) ≤ position_or_len is_lf t) (take-append-drop n xs) (place_front is_lf (take n xs) (drop n xs))

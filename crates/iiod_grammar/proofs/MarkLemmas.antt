@@ -12,7 +12,7 @@ use lib.Lanes.{chunk, mask_l}
 use Rattle.iio_text.specs.Words.{is_blank, words_of}
 use Rattle.iiod_grammar.specs.Marks.{is_solid, marks_of, kept_marks}
 
--- ---- the marks of two loads that hold all bytes between them, some of them twice
+-- ---- the marks of two loads that together hold all bytes, some of them twice
 
 bits_joined : (ms : List Bool) (n m i : ℕ) → m ≤ length ms → length ms ≤ n + m
     → bit_at (bit_or (mask_l (take n ms)) (mask_l (drop (length ms - m) ms) * 2 ^ (length ms - m))) i ≡ bit_at (mask_l ms) i
@@ -149,7 +149,7 @@ marks_small text n few =
     let small : marks_of text < 2 ^ length text = subst (λ j. marks_of text < 2 ^ j) (length-map text is_solid) (mask_l-lt (map is_solid text)) in
     omega (arith, small, pow_mono few)
 
--- where a mark is kept, the first word begins at the lowest, and the text from there on has the marks from there on
+-- if a mark is kept, the first word begins at the lowest, and the text from there on has the marks from there on
 pub record Begins (text : List ℕ) (marks : ℕ) : Type 0 where
   pub start : trailing_zeros w64 marks ≡ prefix_len is_blank text
   pub some : 0 < length (drop (prefix_len is_blank text) text)

@@ -23,7 +23,7 @@ scan s bytes = scan_on (no_item s) bytes
 
 -- ---- lines
 
--- a byte that is no LF
+-- a byte that isn't LF
 step : (begun : List ℕ) (b : ℕ) → (b == 10) ≡ false → length begun < 1024 → after_byte (InLine begun) b ≡ no_item (InLine (begun ++ b ∷ []))
 step begun b other few = rw (other, lt-ltb (length begun) 1024 few) refl
 
@@ -80,7 +80,7 @@ scan_overlong (b ∷ bs) begun (suc n) is few over =
           ap (λ x. scan_on x bs) ended ∙ ap (λ (x : Scanned). record x { items = (ended_by (Some E2BIG)).items ++ x.items }) (at_end bs)
     ]
 
--- the CRs at its end mean nothing to what a line says
+-- the CRs at the end of a line mean nothing for what it says
 drop_returns_twice : (bs : List ℕ) → drop_returns (drop_returns bs) ≡ drop_returns bs
 drop_returns_twice [] = refl
 drop_returns_twice (b ∷ bs) = elim (cases_Bool (b == 13)) [ inl cr ↦ rw cr (drop_returns_twice bs) | inr other ↦ rw (other, other) refl ]

@@ -1,11 +1,11 @@
--- What words name by the first of them.
+-- The target that words name, by the first of them.
 use Rattle.std.proofs.Common.{◌≡◌, ℕ, Bool, true, false, List, [], ◌∷◌, Option, Some, None, Ok, option_map, unwrap_or, refl, sym, ap, ◌∙◌}
 use Rattle.std.specs.Bool.{if◌then◌else◌}
 use Rattle.iiod_grammar.specs.declared.words.PlaceWord.{PlaceWord}
 use Rattle.iiod_grammar.specs.Command.{Target, AtBuffer, AtDebug, AtInput, AtOutput, entry_of, places, at_place, at_channel, at_device, target_of, counted_target, last_of, all_but_last}
 use Rattle.iiod_grammar.specs.Parts.{place_form}
 
--- a word that is no place's is an attribute's name
+-- a word that names no place is an attribute's name
 pub target_of-name : (a : List ℕ) (words : List (List ℕ)) (w : Option PlaceWord) → option_map place_form w ≡ entry_of places a → w ≡ None
     → at_device a words ≡ target_of (a ∷ words)
 target_of-name a words w is none = ap (λ o. unwrap_or o (at_device a) words) (sym (ap (option_map place_form) none) ∙ is)

@@ -1,5 +1,5 @@
--- What a command line says. (libiio 0.25's iiod, its text protocol. SET's BUFFERS_COUNT is its too; EVOPEN, EVREAD, EVCLOSE and
--- REMASK, the numbers and the CRs before an LF are this project's own.)
+-- What a command line says. (libiio 0.25's iiod, its text protocol. SET's BUFFERS_COUNT is also libiio's; EVOPEN, EVREAD,
+-- EVCLOSE and REMASK, the numbers and the CRs before an LF are this project's own.)
 use Rattle.std.specs.Prelude.{ℕ, ⊤, Bool, true, false, List, [], ◌∷◌, ◌==◌, reverse, codes, Option, Some, None, unwrap_or, Result, Ok, Err, if◌then◌else◌}
 use Rattle.std.specs.Option.{ok_or}
 use Rattle.std.specs.Str.{bytes_eq}
@@ -17,7 +17,7 @@ pub data Place : Type 0 where
   AtInput : (channel : List ℕ) → Place
   AtOutput : (channel : List ℕ) → Place
 
--- a place, and the attribute's name where one is given
+-- a place, and the attribute's name if one is given
 abbrev pub Target : Type 0
 Target = Place × Option (List ℕ)
 
@@ -31,12 +31,12 @@ pub data Command : Type 0 where
   Open : (device : List ℕ) (samples : ℕ) (mask : List ℕ) (cyclic : Bool) → Command
   Close : (device : List ℕ) → Command
   Read : (device : List ℕ) (place : Place) (attribute : Option (List ℕ)) → Command
-  -- no target where the words between the device and the count are arranged in no form of READ
+  -- no target if the words between the device and the count have no form of READ
   Write : (device : List ℕ) (target : Option Target) (count : ℕ) → Command
   ReadBuf : (device : List ℕ) (bytes : ℕ) → Command
   WriteBuf : (device : List ℕ) (count : ℕ) → Command
   GetTrig : (device : List ℕ) → Command
-  -- no trigger takes the device's off
+  -- no trigger removes the device's trigger
   SetTrig : (device : List ℕ) (trigger : Option (List ℕ)) → Command
   SetBuffers : (device : List ℕ) (count : ℕ) → Command
   Remask : (device : List ℕ) (mask : List ℕ) → Command
@@ -71,7 +71,7 @@ abbrev pub at_device : List ℕ → List (List ℕ) → Option Target
 at_device attribute [] = Some (AtDevice, Some attribute)
 at_device attribute (more ∷ words) = None
 
--- the words for a place, none of which is an attribute's name, and what stands after each
+-- the words for a place, none of which is an attribute's name, and what may stand after each
 abbrev pub places : List (List ℕ × (List (List ℕ) → Option Target))
 places =
     (codes "BUFFER", at_place AtBuffer)
@@ -80,7 +80,7 @@ places =
     ∷ (codes "OUTPUT", at_channel AtOutput)
     ∷ []
 
--- what the words after a device name
+-- the target that the words after the device name
 abbrev pub target_of : List (List ℕ) → Option Target
 target_of [] = Some (AtDevice, None)
 target_of (word ∷ words) = unwrap_or (entry_of places word) (at_device word) words
@@ -92,17 +92,17 @@ abbrev pub no_words : List (List ℕ) → Result ⊤ Refused
 no_words [] = Ok tt
 no_words (word ∷ words) = Err Shape
 
--- one word alone
+-- exactly one word
 abbrev pub one_word : List (List ℕ) → Result (List ℕ) Refused
 one_word (word ∷ []) = Ok word
 one_word words = Err Shape
 
--- two words alone
+-- exactly two words
 abbrev pub two_words : List (List ℕ) → Result (List ℕ × List ℕ) Refused
 two_words (first ∷ second ∷ []) = Ok (first, second)
 two_words words = Err Shape
 
--- a command of its first word alone
+-- a command that is only its first word
 abbrev pub bare_form : Command → List (List ℕ) → Result Command Refused
 bare_form command words = do
   none ← no_words words
@@ -114,7 +114,7 @@ timeout_form words = do
   n ← number milliseconds
   Ok (Timeout n)
 
--- a device alone
+-- only a device
 abbrev pub device_form : (List ℕ → Command) → List (List ℕ) → Result Command Refused
 device_form command words = do
   device ← one_word words
@@ -133,7 +133,7 @@ bytes_form command words = do
   counted ← counted_word words
   Ok (command counted.0 counted.1)
 
--- whether CYCLIC stands at the end, where else nothing may stand
+-- whether CYCLIC stands at the end; nothing else may stand there
 abbrev pub cyclic_of : List (List ℕ) → Result Bool Refused
 cyclic_of [] = Ok false
 cyclic_of (word ∷ []) = if bytes_eq word (codes "CYCLIC") then Ok true else Err Shape
@@ -161,7 +161,7 @@ abbrev pub all_but_last : List ℕ → List (List ℕ) → List (List ℕ)
 all_but_last word [] = []
 all_but_last word (next ∷ words) = word ∷ all_but_last next words
 
--- what the words before the last one name, or nothing, and the last one
+-- the target that the words before the last one name, if any, and the last one
 abbrev pub counted_target : List (List ℕ) → Result (Option Target × List ℕ) Refused
 counted_target [] = Err Shape
 counted_target (word ∷ words) = Ok (target_of (all_but_last word words), last_of word words)
@@ -194,7 +194,7 @@ remask_form words = do
 
 -- ---- lines
 
--- the commands: the first word, in upper case alone, and the form of those after it
+-- the commands: the first word, which has to be in upper case, and the form of the words after it
 abbrev pub commands : List (List ℕ × (List (List ℕ) → Result Command Refused))
 commands =
     (codes "HELP", bare_form Help)
@@ -233,7 +233,7 @@ drop_returns (b ∷ bs) = if b == 13 then drop_returns bs else b ∷ bs
 abbrev pub without_returns : List ℕ → List ℕ
 without_returns line = reverse (drop_returns (reverse line))
 
--- what a line says, without its LF, or why it is no command: it has no word, its first word is no command, its words
--- fit no form, or a word that stands for a number is none, in this order
+-- what a line says, without its LF, or why it is not a command, in this order: it has no word, its first word is not a command,
+-- its words fit no form, or a word that stands for a number is not one
 abbrev pub command_of : List ℕ → Result Command Refused
 command_of line = command_of_words (words_of is_blank (without_returns line))

@@ -1,4 +1,4 @@
--- Parts of a line as the code has them. Cited by the private functions of `read_line` alone.
+-- Parts of a line as the code has them. Cited only by the private functions of `read_line`.
 use Rattle.std.specs.Prelude.{ℕ, List, Option, Result, Ok, Err, option_map}
 use Rattle.std.specs.Borrow.{Bor}
 use Rattle.iiod_grammar.specs.declared.command.Refused.{Refused}

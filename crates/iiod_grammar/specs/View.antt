@@ -1,4 +1,4 @@
--- A command of the code as the command that it is: each slice by its bytes.
+-- A command of the code as the command of the definitions: each slice by its bytes.
 use Rattle.std.specs.Prelude.{ℕ, List, Option, Result, Ok, Err, option_map}
 use Rattle.std.specs.Option.{option_copied}
 use Rattle.std.specs.Borrow.{Bor}

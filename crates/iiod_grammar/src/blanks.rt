@@ -1,4 +1,4 @@
-//! The words of a command line, with many bytes looked at at once.
+//! The words of a command line, found by looking at many bytes at once.
 
 ghost use Rattle.std.specs.Prelude.{◌≡◌, ◌+◌, ◌==◌, ◌≤◌, ◌<◌, ◌∷◌, ◌↔◌, IsNone, IfSome, [], if◌then◌else◌, length, drop};
 ghost use Rattle.std.specs.Int.{w64, trailing_zeros};
@@ -10,7 +10,7 @@ ghost use Rattle.iiod_grammar.specs.Marks.{marks_of};
 use std::marker::Model;
 use std::simd::prelude::*;
 
-// How many bytes are looked at at once.
+// The number of bytes that are looked at at once.
 const LANES: usize = 16;
 
 // The most bytes of a text whose marks are kept.
@@ -22,7 +22,7 @@ fn is_blank(byte: u8) -> bool
     byte == b' ' || byte == b'\t'
 }
 
-// The place of the lowest bit of a mask, or `lanes` where none is set.
+// Returns the place of the lowest bit of a mask, or `lanes` if none is set.
 #[inline(always)]
 fn first_set(mask: u64, lanes: usize) -> usize
     ensures { result ≡ (if mask == 0 then lanes else trailing_zeros w64 mask) }
@@ -34,7 +34,7 @@ fn first_set(mask: u64, lanes: usize) -> usize
     }
 }
 
-// How many of the bytes that are looked at from a place on stand before the first blank.
+// Returns how many of the `LANES` bytes from a place on stand before the first blank.
 #[inline(always)]
 fn first_in_lanes(text: &[u8], place: usize) -> usize
     requires { place + LANES ≤ length text.now }
@@ -45,7 +45,7 @@ fn first_in_lanes(text: &[u8], place: usize) -> usize
     first_set(blanks.to_bitmask(), LANES)
 }
 
-// The place of the first blank from a place on, or the length, with the bytes looked at one by one.
+// Returns the place of the first blank from a place on, or the length; the bytes are looked at one by one.
 fn next_blank(text: &[u8], from: usize) -> usize
     requires { from ≤ length text.now }
     ensures within { result ≤ length text.now }
@@ -58,7 +58,7 @@ fn next_blank(text: &[u8], from: usize) -> usize
     place
 }
 
-// How many bytes stand before the first blank.
+// Returns the number of bytes before the first blank.
 fn word_len(text: &[u8]) -> usize
     ensures within { result ≤ length text.now }
     ensures value { result ≡ position_or_len is_blank text.now }
@@ -74,7 +74,7 @@ fn word_len(text: &[u8]) -> usize
     next_blank(text, place)
 }
 
-// How many blanks the text begins with.
+// Returns the number of blanks that the text begins with.
 fn blanks_len(text: &[u8]) -> usize
     ensures within { result ≤ length text.now }
     ensures value { result ≡ prefix_len is_blank text.now }
@@ -87,7 +87,7 @@ fn blanks_len(text: &[u8]) -> usize
     text.len()
 }
 
-// The first word of a command line, and the text after it, as by iio_text's `next_word` with spaces and tabs. None where
+// Returns the first word of a command line, and the text after it, like iio_text's `next_word` with spaces and tabs; `None` if
 // the text has no word.
 fn next_word(text: &[u8]) -> Option<(&[u8], &[u8])>
     ensures none { IsNone result ↔ (words_of is_blank text.now ≡ []) }
@@ -100,7 +100,7 @@ fn next_word(text: &[u8]) -> Option<(&[u8], &[u8])>
     Some(begun.split_at(word_len(begun)))
 }
 
-// The marks of the 32 bytes from a place on: bit i says whether byte i is no blank.
+// Returns the marks of the 32 bytes from a place on: bit i says whether byte i is not a blank.
 #[inline(always)]
 fn marks_of_32(text: &[u8], place: usize) -> u64
     requires { place + 32 ≤ length text.now }
@@ -110,7 +110,7 @@ fn marks_of_32(text: &[u8], place: usize) -> u64
     (lanes.simd_ne(u8x32::splat(b' ')) & lanes.simd_ne(u8x32::splat(b'\t'))).to_bitmask()
 }
 
-// The marks of the 16 bytes from a place on.
+// Returns the marks of the 16 bytes from a place on.
 #[inline(always)]
 fn marks_of_16(text: &[u8], place: usize) -> u64
     requires { place + 16 ≤ length text.now }
@@ -120,7 +120,7 @@ fn marks_of_16(text: &[u8], place: usize) -> u64
     (lanes.simd_ne(u8x16::splat(b' ')) & lanes.simd_ne(u8x16::splat(b'\t'))).to_bitmask()
 }
 
-// The marks of the 8 bytes from a place on.
+// Returns the marks of the 8 bytes from a place on.
 #[inline(always)]
 fn marks_of_8(text: &[u8], place: usize) -> u64
     requires { place + 8 ≤ length text.now }
@@ -130,7 +130,7 @@ fn marks_of_8(text: &[u8], place: usize) -> u64
     (lanes.simd_ne(u8x8::splat(b' ')) & lanes.simd_ne(u8x8::splat(b'\t'))).to_bitmask()
 }
 
-// The marks of a text's bytes, which are looked at one by one.
+// Returns the marks of a text's bytes, which are looked at one by one.
 fn marks_of_few(text: &[u8]) -> u64
     requires { length text.now < 8 }
     ensures { result ≡ marks_of text.now }
@@ -144,7 +144,7 @@ fn marks_of_few(text: &[u8]) -> u64
     marks
 }
 
-// The marks of a text's bytes. The last bytes are looked at together with those before them that the first ones hold already.
+// Returns the marks of a text's bytes. The last block of bytes may overlap the first one.
 #[inline(always)]
 fn marks_of(text: &[u8]) -> u64
     requires { length text.now ≤ MARKED }
@@ -171,7 +171,7 @@ fn marks_of(text: &[u8]) -> u64
 #[derive(Drop)]
 pub(crate) struct Words<'a> {
     text: &'a [u8],
-    // The marks of the text, or 0 where it has more than 63 bytes.
+    // The marks of the text, or 0 if it has more than 63 bytes.
     marks: u64,
 }
 
@@ -202,7 +202,7 @@ impl<'a> Words<'a> {
         }
     }
 
-    /// Takes the first word. None where there is none.
+    /// Takes the first word. Returns `None` if there is none.
     #[inline(always)]
     pub(crate) fn next(&mut self) -> Option<&'a [u8]>
         ensures none { IsNone result ↔ (self.old ≡ []) }
@@ -242,7 +242,8 @@ impl<'a> Words<'a> {
     }
 }
 
-// The first word of a text, and the words after it. It stands apart, since few lines are so long that they come here.
+// Returns the first word of a text, and the words after it. It is a function of its own because few lines are long enough to
+// need it.
 #[cold]
 #[inline(never)]
 fn next_of_long(text: &[u8]) -> Option<(&[u8], Words<'_>)>

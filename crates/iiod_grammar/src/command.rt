@@ -1,15 +1,15 @@
 //! The commands of a connection.
 
-/// Why a line is no command.
+/// The reason why a line is not a command.
 #[derive(Clone, Copy, Debug, PartialEq, Eq, Hash)]
 pub enum Refused {
     /// The line has no word.
     Empty,
-    /// The first word is no command.
+    /// The first word is not a command.
     Unknown,
     /// The words fit no form of the command.
     Shape,
-    /// A word that stands for a number or a count is none.
+    /// A word that stands for a number or a count is not one.
     Number,
 }
 
@@ -28,7 +28,7 @@ pub enum Place<'a> {
     Output(&'a [u8]),
 }
 
-/// A command of a connection. Its words are parts of the line.
+/// A command of a connection. Its words are slices of the line.
 #[derive(Clone, Copy, Debug, PartialEq, Eq)]
 pub enum Command<'a> {
     /// `HELP`: the line that names the profile.
@@ -43,7 +43,7 @@ pub enum Command<'a> {
     Timeout {
         ms: u32,
     },
-    /// `OPEN dev samples mask`, with `CYCLIC` or without: how many samples a buffer has, and the text of a mask.
+    /// `OPEN dev samples mask`, with or without `CYCLIC`: the number of samples of a buffer, and the text of a mask.
     Open {
         dev: &'a [u8],
         samples: u32,
@@ -60,8 +60,8 @@ pub enum Command<'a> {
         place: Place<'a>,
         attr: Option<&'a [u8]>,
     },
-    /// `WRITE dev .. count`: an attribute, or a place without one, and how many bytes the payload has. No target where
-    /// the words between the device and the count are arranged in no form of READ.
+    /// `WRITE dev .. count`: an attribute, or a place without one, and the number of bytes of the payload. No target if the
+    /// words between the device and the count have no form of READ.
     Write {
         dev: &'a [u8],
         target: Option<(Place<'a>, Option<&'a [u8]>)>,
@@ -72,7 +72,7 @@ pub enum Command<'a> {
         dev: &'a [u8],
         bytes: u32,
     },
-    /// `WRITEBUF dev bytes`: how many bytes of scans the payload has.
+    /// `WRITEBUF dev bytes`: the number of bytes of scans in the payload.
     WriteBuf {
         dev: &'a [u8],
         bytes: u32,
@@ -81,12 +81,12 @@ pub enum Command<'a> {
     GetTrig {
         dev: &'a [u8],
     },
-    /// `SETTRIG dev trig`, or `SETTRIG dev`, which takes the trigger off.
+    /// `SETTRIG dev trig`, or `SETTRIG dev`, which removes the trigger.
     SetTrig {
         dev: &'a [u8],
         trigger: Option<&'a [u8]>,
     },
-    /// `SET dev BUFFERS_COUNT n`: for later OPENs of the device.
+    /// `SET dev BUFFERS_COUNT n`: the buffers count for later OPENs of the device.
     SetBuffers {
         dev: &'a [u8],
         count: u32,

@@ -11,7 +11,7 @@ use iio_text::copy_line;
 use std::alloc::Global;
 use std::marker::Model;
 
-/// The bytes of a piece. They stand at the front of a room that isn't cleared, so that they are only copied.
+/// The bytes of a piece. They stand at the front of a buffer that isn't cleared, so that they are only copied.
 #[derive(Debug, Drop)]
 pub(crate) struct Kept {
     room: Vec<u8>,
@@ -30,7 +30,7 @@ impl Model for Kept {
 }
 
 impl Kept {
-    /// No bytes, and room for the longest piece. A line's is made ready.
+    /// Creates the empty piece, with room for the longest piece. The room for a line is filled with zeros here.
     pub(crate) fn new(alloc: Global) -> Result<Kept, Mem>
         ensures { IfOk result (λ kept. kept ≡ []) }
     {
@@ -73,7 +73,7 @@ impl Kept {
         self.len = end;
     }
 
-    /// Appends the bytes before the first LF, or all, and answers how many these are.
+    /// Appends the bytes before the first LF, or all if there is none, and returns their number.
     #[inline(always)]
     pub(crate) fn keep_line(&mut self, bytes: &[u8]) -> usize
         requires { length self.old + length bytes.now ≤ MAX_LINE + 1 }
@@ -87,7 +87,7 @@ impl Kept {
     }
 }
 
-// Puts bytes at a place over what stands there.
+// Copies bytes to a place, over what stands there.
 #[inline(always)]
 fn put(room: &mut Vec<u8>, at: usize, bytes: &[u8])
     requires { at + length bytes.now ≤ length room.old.items }
@@ -98,7 +98,7 @@ fn put(room: &mut Vec<u8>, at: usize, bytes: &[u8])
     room[at..at + bytes.len()].copy_from_slice(bytes);
 }
 
-// Puts the bytes before the first LF, or all, at a place over what stands there, and answers how many these are.
+// Copies the bytes before the first LF, or all if there is none, to a place, over what stands there; returns their number.
 #[inline(always)]
 fn put_line(room: &mut Vec<u8>, at: usize, bytes: &[u8]) -> usize
     requires { at + length bytes.now ≤ length room.old.items }

@@ -1,4 +1,4 @@
-//! Lines as commands.
+//! Reads lines as commands.
 
 ghost use Rattle.std.specs.Prelude.{◌≡◌, ◌≤◌, ◌∷◌, [], length, take, option_map};
 ghost use Rattle.iiod_grammar.specs.Command.{number, target_of, no_words, one_word, two_words, bare_form, timeout_form, open_form, cyclic_of, read_form, last_of, counted_word, counted_target, write_form, trigger_form, set_form, remask_form, command_of, without_returns, bytes_form, ReadBuf, WriteBuf};
@@ -12,7 +12,7 @@ use iio_text::{is_word, read_number};
 
 type Target<'a> = (Place<'a>, Option<&'a [u8]>);
 
-// How many bytes of a line stand before the CRs at its end.
+// Returns the number of bytes of a line before the CRs at its end.
 pub(crate) fn len_without_returns(line: &[u8]) -> usize
     ensures within { result ≤ length line.now }
     ensures value { take result line.now ≡ without_returns line.now }
@@ -24,21 +24,21 @@ pub(crate) fn len_without_returns(line: &[u8]) -> usize
     len
 }
 
-/// A line without the CRs at its end.
+/// Returns a line without the CRs at its end.
 pub fn without_returns(line: &[u8]) -> &[u8]
     ensures { result.now ≡ without_returns line.now }
 {
     &line[..len_without_returns(line)]
 }
 
-// The number that a word stands for.
+// Returns the number that a word stands for.
 fn number(word: &[u8]) -> Result<u32, Refused>
     ensures { result ≡ number word.now }
 {
     read_number(word).ok_or(Refused::Number)
 }
 
-// Words that have to be none.
+// Checks that no word is left.
 #[inline(always)]
 fn no_words<'a>(words: &mut Words<'a>) -> Result<(), Refused>
     ensures { result ≡ no_words (words.old) }
@@ -49,7 +49,7 @@ fn no_words<'a>(words: &mut Words<'a>) -> Result<(), Refused>
     }
 }
 
-// Words that have to be one.
+// Returns the only word that is left.
 #[inline(always)]
 fn one_word<'a>(words: &mut Words<'a>) -> Result<&'a [u8], Refused>
     ensures { word_view result ≡ one_word (words.old) }
@@ -63,7 +63,7 @@ fn one_word<'a>(words: &mut Words<'a>) -> Result<&'a [u8], Refused>
     }
 }
 
-// Words that have to be two.
+// Returns the only two words that are left.
 #[inline(always)]
 fn two_words<'a>(words: &mut Words<'a>) -> Result<(&'a [u8], &'a [u8]), Refused>
     ensures { pair_view result ≡ two_words (words.old) }
@@ -76,7 +76,7 @@ fn two_words<'a>(words: &mut Words<'a>) -> Result<(&'a [u8], &'a [u8]), Refused>
     Ok((first, second))
 }
 
-// Words that have to be a device and a number.
+// Returns the device and the number that are the only two words left.
 #[inline(always)]
 fn device_and_number<'a>(words: &mut Words<'a>) -> Result<(&'a [u8], u32), Refused>
     ensures { counted_view result ≡ counted_word (words.old) }
@@ -86,7 +86,7 @@ fn device_and_number<'a>(words: &mut Words<'a>) -> Result<(&'a [u8], u32), Refus
     Ok((dev, count))
 }
 
-// A command of one word.
+// Returns a command that has no further word.
 #[inline(always)]
 fn bare<'a>(words: &mut Words<'a>, command: Command<'a>) -> Result<Command<'a>, Refused>
     ensures { line_view result ≡ bare_form (command_view command.entry) (words.old) }
@@ -103,7 +103,7 @@ fn read_timeout<'a>(words: &mut Words<'a>) -> Result<Command<'a>, Refused>
     Ok(Command::Timeout { ms })
 }
 
-// Whether CYCLIC stands at an OPEN's end, where else nothing may stand.
+// Returns whether CYCLIC stands at the end of an OPEN; nothing else may stand there.
 #[inline(always)]
 fn read_cyclic<'a>(words: &mut Words<'a>) -> Result<bool, Refused>
     ensures { result ≡ cyclic_of (words.old) }
@@ -215,7 +215,7 @@ fn target_of_three<'a>(a: &[u8], b: &'a [u8], c: &'a [u8]) -> Option<Target<'a>>
     }
 }
 
-// What these words name, where each but the first may be missing.
+// Returns the target that these words name, or `None` if they have no form of READ.
 #[inline(always)]
 fn target<'a>(words: &mut Words<'a>) -> Option<Target<'a>>
     ensures { option_map target_view result ≡ target_of (words.old) }
@@ -248,7 +248,7 @@ fn read_read<'a>(words: &mut Words<'a>) -> Result<Command<'a>, Refused>
     }
 }
 
-// The last word of a text, or `word` where it has none.
+// Returns the last word of a text, or `word` if it has none.
 #[inline(always)]
 fn last_word<'a>(word: &'a [u8], words: &mut Words<'a>) -> &'a [u8]
     ensures { result.now ≡ last_of word.now (words.old) }
@@ -260,7 +260,7 @@ fn last_word<'a>(word: &'a [u8], words: &mut Words<'a>) -> &'a [u8]
     last
 }
 
-// The target before a count, and the count, of words after the device.
+// Returns the target before a count, and the count, from the words after the device.
 #[inline(always)]
 fn counted_target<'a>(words: &mut Words<'a>) -> Result<(Option<Target<'a>>, &'a [u8]), Refused>
     ensures { split_view result ≡ counted_target (words.old) }
@@ -313,10 +313,10 @@ fn read_write_buffer<'a>(words: &mut Words<'a>) -> Result<Command<'a>, Refused>
     Ok(Command::WriteBuf { dev, bytes })
 }
 
-/// The command of a line, without its LF. Words are parted by spaces and tabs; CRs at the line's end don't count, and a CR
-/// elsewhere is a byte of a word. Numbers have one to ten digits, leading zeros allowed, and are at most 4,294,967,295.
+/// Reads a line, without its LF, as a command. Words are separated by spaces and tabs; CRs at the line's end are ignored, and a
+/// CR elsewhere is a byte of a word. Numbers have one to ten digits, leading zeros allowed, and are at most 4,294,967,295.
 ///
-/// Of several refusals the first in the order of [`Refused`] is the answer.
+/// If several refusals apply, the first in the order of [`Refused`] is returned.
 #[inline(always)]
 pub fn read_line(line: &[u8]) -> Result<Command<'_>, Refused>
     ensures { line_view result ≡ command_of line.now }

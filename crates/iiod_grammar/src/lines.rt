@@ -13,13 +13,13 @@ use iio_base::Mem;
 use std::alloc::Global;
 use std::marker::Model;
 
-/// The most bytes of a line before its LF, CRs counted.
+/// The most bytes of a line before its LF, including CRs.
 pub const MAX_LINE: usize = 1024;
 
 /// The most bytes of a payload.
 pub const MAX_PAYLOAD: u32 = 65_536;
 
-/// What stands after the bytes that were fed.
+/// What is ready after the bytes that were fed.
 #[derive(Clone, Copy, Debug, PartialEq, Eq)]
 pub enum Ready {
     /// No piece is whole yet; all bytes were taken.
@@ -28,14 +28,14 @@ pub enum Ready {
     Line,
     /// The payload that was wanted is whole.
     Payload,
-    /// More than 1,024 bytes without an LF stand at a line's place. This holds for good, and no byte is taken any more.
+    /// More than 1,024 bytes without an LF stand where a line is expected. This is permanent, and no more bytes are taken.
     TooLong,
 }
 
-/// A stream that is taken apart into lines and payloads, in whatever parts its bytes come.
+/// Takes a stream apart into lines and payloads, in whatever parts its bytes come.
 #[derive(Debug, Drop)]
 pub struct Lines {
-    // The bytes of the piece that isn't whole, or the whole piece.
+    // The bytes of the piece that isn't whole, or those of the whole piece.
     kept: Kept,
     is_whole: bool,
     wanted: Option<u32>,
@@ -60,8 +60,8 @@ impl Model for Lines {
 }
 
 impl Lines {
-    /// A stream of which nothing came yet; a line is first. The room for the longest piece is taken here, and no later call
-    /// takes memory.
+    /// Creates a stream of which nothing has been received; a line comes first. The room for the longest piece is taken here,
+    /// and no later call takes memory.
     pub fn new(alloc: Global) -> Result<Lines, Mem>
         ensures { IfOk result (λ lines. lines ≡ new_lines) }
     {
@@ -73,7 +73,7 @@ impl Lines {
         })
     }
 
-    /// Takes bytes up to the end of one piece, and says how many it took and what is ready. The bytes of a piece that isn't
+    /// Takes bytes up to the end of one piece, and returns how many it took and what is ready. The bytes of a piece that isn't
     /// whole are kept, so it doesn't matter how the stream is cut. A payload of no bytes is ready at once.
     #[inline(always)]
     pub fn feed(&mut self, bytes: &[u8]) -> (usize, Ready)
@@ -81,7 +81,7 @@ impl Lines {
         ensures ready { result.1 ≡ (feed_of self.old bytes.now).ready }
         ensures state { self.new ≡ (feed_of self.old bytes.now).lines }
 
-        // What the bytes are to the items of the stream, and some of what follows from that.
+        // What the bytes mean for the items of the stream, and some consequences.
         ensures items { Scans self.old bytes.now result.0 result.1 self.new }
         ensures piece { EndsPiece result.1 self.new }
         ensures within { result.0 ≤ length bytes.now }
@@ -90,8 +90,8 @@ impl Lines {
         self.advance(bytes)
     }
 
-    /// The piece that the last `feed` made whole: a payload, or a line without its LF and the CRs before it. Empty where it
-    /// made none.
+    /// The piece that the last `feed` completed: a payload, or a line without its LF and the CRs before it. Empty if it
+    /// completed none.
     pub fn piece(&self) -> &[u8]
         ensures { result.now ≡ self.now.piece }
     {
@@ -102,7 +102,7 @@ impl Lines {
         }
     }
 
-    /// Says that the next piece is a payload of `count` bytes. No bytes of that piece were fed yet.
+    /// Makes the next piece a payload of `count` bytes. No bytes of that piece may have been fed yet.
     pub fn want(&mut self, count: u32)
         requires within { count ≤ MAX_PAYLOAD }
         requires none_begun { self.old.begun ≡ [] }
@@ -142,7 +142,7 @@ impl Lines {
     }
 }
 
-// Takes bytes to those of a line.
+// Takes bytes that belong to a line.
 fn take_line(kept: &mut Kept, bytes: &[u8]) -> (usize, Ready)
     requires begun { is_begun None kept.old ≡ true }
     ensures takes { Takes None kept.old bytes.now result.0 result.1 kept.new }
@@ -170,7 +170,7 @@ fn take_line(kept: &mut Kept, bytes: &[u8]) -> (usize, Ready)
     (end + 1, Ready::Line)
 }
 
-// Takes bytes to those of a payload of `count` bytes.
+// Takes bytes that belong to a payload of `count` bytes.
 fn take_payload(kept: &mut Kept, count: u32, bytes: &[u8]) -> (usize, Ready)
     requires begun { is_begun (Some count) kept.old ≡ true }
     ensures takes { Takes (Some count) kept.old bytes.now result.0 result.1 kept.new }

@@ -1,4 +1,4 @@
-//! The words that stand for something in a command line.
+//! The words that have a meaning in a command line.
 
 ghost use Rattle.std.specs.Prelude.{◌≡◌, drop, option_map};
 ghost use Rattle.iiod_grammar.specs.Command.{entry_of, places, commands};
@@ -55,7 +55,7 @@ pub(crate) fn place_word(word: &[u8]) -> Option<PlaceWord>
     }
 }
 
-/// The command of a first word, in upper case alone.
+/// Returns the command of a first word, which has to be in upper case.
 pub(crate) fn verb_of(word: &[u8]) -> Option<Verb>
     ensures { option_map command_form result ≡ entry_of commands word.now }
 {
@@ -82,7 +82,7 @@ pub(crate) fn verb_of(word: &[u8]) -> Option<Verb>
     }
 }
 
-// The command of a first word that stands after WRITE in the table.
+// Returns the command of a first word that stands after WRITE in the table.
 fn later_verb_of(word: &[u8]) -> Option<Verb>
     ensures { option_map command_form result ≡ entry_of (drop 9 commands) word.now }
 {

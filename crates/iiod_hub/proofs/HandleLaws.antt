@@ -1,4 +1,4 @@
--- One entry: three steps over a bank that tells.
+-- One entry: three steps over a bank that tells its state.
 use Rattle.std.proofs.Common.{◌≡◌, ℕ, suc, ◌+◌, Bool, List, Option, Some, None, arith}
 use Rattle.iio_trigger.specs.Trigger.{Handed}
 use Rattle.iio_kfifo.specs.declared.tail.Offered.{Offered}

@@ -1,4 +1,4 @@
--- An OPEN over a bank that tells.
+-- An OPEN over a bank that tells its state.
 use Rattle.std.proofs.Common.{◌≡◌, ℕ, Option, Some, None, Result, subst}
 use Rattle.iio_mask.specs.declared.Mask.{Mask}
 use Rattle.iio_core.specs.Front.{Front, size_at}

@@ -1,4 +1,4 @@
--- A REMASK over a bank that tells.
+-- A REMASK over a bank that tells its state.
 use Rattle.std.proofs.Common.{◌≡◌, ℕ, Option, Some, None, Result, subst}
 use Rattle.iio_kfifo.specs.Ends.{WriterEnd}
 use Rattle.iio_mask.specs.declared.Mask.{Mask}

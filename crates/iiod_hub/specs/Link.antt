@@ -1,4 +1,4 @@
--- What a link makes of a bank that tells, by jobs; and what its seats are.
+-- What a link makes of a bank that tells its state, by jobs; and what its seats are.
 use Rattle.std.specs.Prelude.{◌≡◌, ℕ, ℤ, ◌+◌, ◌-◌, ◌^◌, min, nat_lt, Bool, true, false, if◌then◌else◌, List, [], ◌∷◌, zero, suc, Option, Some, None, Result, Ok, Err}
 use Rattle.iio_mask.specs.declared.Mask.{Mask}
 use Rattle.iio_kfifo.specs.declared.tail.Offered.{Offered}
@@ -35,7 +35,7 @@ abbrev pub is_short : (want : ℕ) → Result ℕ ReadEnd → Bool
 is_short want (Ok count) = nat_lt count want
 is_short want (Err end) = true
 
--- what a read leaves of its seat beside the reader; a take that found nothing is counted
+-- what a read leaves of its seat besides the reader; a take that found nothing is counted
 pub record KeepsSeat (want : ℕ) (result : Result ℕ ReadEnd) (old new : HubSeat) : Type 0 where
   pub dev : new.dev ≡ old.dev
   pub member : new.member ≡ old.member
@@ -43,7 +43,7 @@ pub record KeepsSeat (want : ℕ) (result : Result ℕ ReadEnd) (old new : HubSe
   pub capacity : new.capacity ≡ old.capacity
   pub empties : new.empties ≡ (if is_short want result then min (old.empties + 1) (2 ^ 64 - 1) else old.empties)
 
--- the seat that an accepted OPEN's job gives
+-- the seat that the job of an accepted OPEN gives
 abbrev pub seated : ℕ → Mask → ℕ → Opened → HubSeat
 seated dev mask capacity o = record { dev = dev; member = o.member; mask = mask; capacity = capacity; reader = o.reader; empties = 0; gone = false }
 
@@ -58,7 +58,7 @@ module _ (taken lost size capacity : WriterEnd → ℕ) where
     pub ran : Ran (OpenMakes taken lost size capacity mask scans (size_at front dev mask.bits)) dev b answer c
     pub seat : SeatOf dev mask scans answer result
 
--- an errno is one by which some device of that number refuses an OPEN of that mask, as it then stands
+-- an errno is one by which a device of that number, in some state, refuses an OPEN of that mask
 abbrev pub RefusedBySome : (dev : ℕ) → Mask → Result HubSeat No → Type 0
 RefusedBySome dev mask (Err (NoErrno e)) = (a : DeviceView WriterEnd) × (s : Option State) × (a.number ≡ dev) × (open_refusal mask.bits a s ≡ Some e)
 RefusedBySome dev mask (Err NoMem) = Unit {0}
@@ -83,19 +83,19 @@ module _ (taken lost size capacity : WriterEnd → ℕ) (offer_gives : WriterEnd
   BankHandles trigger dev b None c = RanAt (DueMakes dev) trigger b None c
   BankHandles trigger dev b (Some h) c = (due : Handed) × Passes trigger dev b due h c
 
-  -- the first devices, one after the other
+  -- the first devices are handed their entries, one after another
   abbrev pub Swept : ℕ → ℕ → Told → Told → Type 0
   Swept trigger zero b c = c ≡ b
   Swept trigger (suc k) b c = (m : Told) × Swept trigger k b m × ((h : Option Handled) × BankHandles trigger k m h c)
 
 -- ---- ticks
 
--- a tick is answered with whether a moment is left
+-- a tick returns whether a moment was left
 abbrev pub HasMoment : Bool → List ℤ → Type 0
 HasMoment answer [] = answer ≡ false
 HasMoment answer (t ∷ ts) = answer ≡ true
 
--- a tick: the clock is set to the next moment, and the trigger is polled at it, once; where no moment is left, nothing changes
+-- a tick: the clock is set to the next moment, and the trigger is polled at it, once; if no moment is left, nothing changes
 abbrev pub TicksOnce : ℕ → Told → List ℤ → Option Told → Type 0
 TicksOnce trigger b [] told = told ≡ Some b
 TicksOnce trigger b (t ∷ ts) told = (o : Polled) × (c : Told) × (told ≡ Some c) × RanAt (λ s p u. Polls s t p u) trigger (record b { clock = t }) o c

@@ -6,8 +6,8 @@ use Rattle.iiod_hub.specs.declared.seat.ReadEnd.{ReadEnd}
 use Rattle.iiod_hub.specs.declared.seat.ReadEnd.TheVariants.{Empty, Gone}
 use Rattle.iiod_bank.specs.Received.{scans_of}
 
--- `count` scans were received, at least one, and their bytes were appended. They are fewer than `want` only where the last look
--- of this call found nothing left
+-- `count` scans were received, at least one, and their bytes were appended. They are fewer than `want` only if the last look of
+-- this call found nothing left
 pub record ReadsSome (want count : ℕ) (r r' : Reading) (before after : List ℕ) : Type 0 where
   pub scans : List (List ℕ)
   pub many : length scans ≡ count

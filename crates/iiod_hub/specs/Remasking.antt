@@ -1,4 +1,4 @@
--- What a REMASK makes of a seat and of a bank that tells.
+-- What a REMASK makes of a seat and of a bank that tells its state.
 use Rattle.std.specs.Prelude.{◌≡◌, ℕ, false, Some, Result, Ok, Err}
 use Rattle.iio_mask.specs.declared.Mask.{Mask}
 use Rattle.iio_kfifo.specs.Ends.{WriterEnd}
@@ -11,8 +11,8 @@ use Rattle.iiod_bank.specs.Jobs.{RemaskMakes, remask_refusal}
 use Rattle.iiod_bank.specs.Told.{Only, Ran, Told}
 use Rattle.iiod_hub.specs.declared.seat.HubSeat.{HubSeat}
 
--- the seat after a REMASK, by what the job answered: where it was done, the seat takes from the new ring, and of the number
--- that is answered nothing is said; where it was refused, that is the answer, and the seat stays
+-- the seat after a REMASK, by what the job answered: if it was done, the seat takes from the new ring, and nothing is said of
+-- the number that is answered; if it was refused, that is the answer, and the seat stays
 abbrev pub SeatAfter : Mask → Result Remasked No → (old : HubSeat) → Result ℕ No → (new : HubSeat) → Type 0
 SeatAfter mask (Ok o) old (Ok n) new = new ≡ record old { mask = mask; reader = o.reader; empties = 0; gone = false }
 SeatAfter mask (Err e) old result new = (result ≡ Err e) × (new ≡ old)
@@ -25,7 +25,7 @@ module _ (taken lost size capacity : WriterEnd → ℕ) where
     pub ran : Ran (Only (RemaskMakes taken lost size capacity old.member.number mask old.capacity (size_at front dev mask.bits))) dev b answer c
     pub seat : SeatAfter mask answer old result new
 
--- an errno is one by which some device of that number refuses that member that mask, as it then stands
+-- an errno is one by which a device of that number, in some state, refuses that mask to that member
 abbrev pub RemaskRefusedBySome : (dev number : ℕ) → Mask → Result ℕ No → Type 0
 RemaskRefusedBySome dev number mask (Err (NoErrno e)) = (a : DeviceView WriterEnd) × (a.number ≡ dev) × (remask_refusal number mask.bits a ≡ Some e)
 RemaskRefusedBySome dev number mask (Err NoMem) = Unit {0}

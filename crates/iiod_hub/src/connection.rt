@@ -11,7 +11,7 @@ use iiod_connection::{SessionEnd, serve_on};
 use std::alloc::Global;
 use std::sync::Wait;
 
-/// Serves a connection of a running hub to its end, as [`serve_on`] does over any devices. `who` is its number, which no other
+/// Serves a connection of a running hub to its end, like [`serve_on`] over any devices. `who` is its number, which no other
 /// living connection has.
 pub fn serve_connection<L: Link, G: Gate, R: Wait>(
     rt: &R,

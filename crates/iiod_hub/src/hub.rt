@@ -30,7 +30,7 @@ use std::alloc::Global;
 use std::sync::atomic::{AtomicI64, Ordering};
 use std::sync::{Mutex, Wait};
 
-// Each device under a lock.
+// Puts each device under a lock.
 fn locked_devices(
     alloc: Global,
     devices: Vec<Device<Writer>>,
@@ -44,7 +44,7 @@ fn locked_devices(
     Ok(locked)
 }
 
-// Each trigger under a lock.
+// Puts each trigger under a lock.
 fn locked_triggers(
     alloc: Global,
     triggers: Vec<Trigger>,
@@ -59,7 +59,7 @@ fn locked_triggers(
 }
 
 impl Hub {
-    /// The hub of a description, before anything was done: as `OwnBank::new`, under locks.
+    /// Creates the hub of a description, before anything has happened: what `OwnBank::new` returns, under locks.
     pub fn new(alloc: Global, desc: Desc, drivers: Vec<Box<dyn Sensor + Send>>) -> Result<Hub, Mem>
         requires { IsWellFormed (length drivers.items) desc }
         ensures { IfOk result (λ h. front_of h.front ≡ served_front desc) }
@@ -81,7 +81,7 @@ impl Hub {
         })
     }
 
-    // The hub as a connection uses it.
+    // Returns the hub as a connection uses it.
     fn link<'a, R: Wait>(&'a self, rt: &'a R, alloc: Global) -> HubLink<Locks<'a, R>>
         ensures { result.bank.hub.now.front ≡ self.now.front }
     {
@@ -91,7 +91,7 @@ impl Hub {
         }
     }
 
-    /// A member more at a device, as [`Iio::open`] of a `HubLink`.
+    /// Opens a new member at a device, by [`Iio::open`] of a `HubLink`.
     pub fn open<R: Wait>(
         &self,
         rt: &R,
@@ -107,7 +107,7 @@ impl Hub {
         self.link(rt, alloc).open(dev, mask, capacity)
     }
 
-    /// The member of a seat begins anew under another mask, as [`Iio::remask`] of a `HubLink`. The answer is how many scans its
+    /// Puts the member of a seat under another mask, by [`Iio::remask`] of a `HubLink`. Returns the number of scans that its
     /// reader found waiting in the old ring; no clause says so.
     pub fn remask<R: Wait>(
         &self,
@@ -126,7 +126,7 @@ impl Hub {
         self.link(rt, alloc).remask(dev, seat, mask)
     }
 
-    /// The member of a seat leaves its device, and the reading ends.
+    /// Removes the member of a seat from its device, and ends the reading.
     pub fn close<R: Wait>(&self, rt: &R, alloc: Global, seat: HubSeat) -> Ended
         requires { seat.dev < length (front_of self.now.front).devices }
     {
@@ -146,14 +146,14 @@ impl Hub {
         seat.read(want, out)
     }
 
-    /// A number that changes when something came for a device's members.
+    /// Returns a number that changes when something came for a device's members.
     pub fn bell(&self, dev: u32) -> u64
         requires { dev < length (front_of self.now.front).devices }
     {
         self.bells[dev as usize].count()
     }
 
-    /// Waits until that number isn't the one that was seen.
+    /// Waits until that number differs from `seen`.
     pub fn wait<R: Wait>(&self, rt: &R, dev: u32, seen: u64)
         requires { dev < length (front_of self.now.front).devices }
     {
@@ -167,7 +167,7 @@ impl Hub {
         self.link(rt, alloc).poll(trigger, t)
     }
 
-    /// Hands a device its entry of a trigger.
+    /// Hands a device its entry of a trigger; see [`HubLink::handle`].
     pub fn handle<R: Wait>(&self, rt: &R, alloc: Global, trigger: u32, dev: u32) -> Option<Handled>
         requires trigger { trigger < MAX_TRIGGERS }
         requires dev { dev < length (front_of self.now.front).devices }
@@ -175,14 +175,14 @@ impl Hub {
         self.link(rt, alloc).handle(trigger, dev)
     }
 
-    /// Hands each device its entry of a trigger, in the order of devices, as [`HubLink::sweep`].
+    /// Hands each device its entry of a trigger, in the order of devices, by [`HubLink::sweep`].
     pub fn sweep<R: Wait>(&self, rt: &R, alloc: Global, trigger: u32)
         requires { trigger < MAX_TRIGGERS }
     {
         self.link(rt, alloc).sweep(trigger);
     }
 
-    /// Takes one moment of a ticker for a trigger, as [`tick`]. It says whether there was one.
+    /// Takes one moment of a ticker for a trigger, by [`tick`]. Returns whether there was one.
     pub fn tick<R: Wait, T: Ticker>(
         &self,
         rt: &R,
@@ -202,7 +202,7 @@ impl Hub {
         self.clock.store(t, Ordering::SeqCst);
     }
 
-    /// Unplugs a device, and says whether it was plugged.
+    /// Unplugs a device. Returns whether it was plugged.
     pub fn unplug<R: Wait>(&self, rt: &R, alloc: Global, dev: u32) -> bool
         requires { dev < length (front_of self.now.front).devices }
     {

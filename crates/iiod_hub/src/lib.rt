@@ -1,4 +1,4 @@
-//! A running hub: its devices and triggers under locks, and what one connection has of it.
+//! A running hub: its devices and triggers under locks, and what one connection has open there.
 #![tactic(auto)]
 
 mod bell;

@@ -39,14 +39,14 @@ pub struct HubLink<B> {
     pub alloc: Global,
 }
 
-// A writer that a member left behind is closed.
+// Closes the writer that a member left behind.
 fn close_writer(writer: Option<Writer>) {
     if let Some(writer) = writer {
         writer.close();
     }
 }
 
-// How many scans were lost: what the device says of the member, or else what the closed ring says.
+// Returns the number of scans lost: what the device says of the member, otherwise what the closed ring says.
 fn lost_of(reader: &mut Reader, told: Option<u64>) -> u64
     ensures told { IfSome told (λ n. result ≡ n) }
     ensures same { received_of reader.new ≡ received_of reader.old }
@@ -71,7 +71,7 @@ impl<B: Bank> Iio for HubLink<B> {
 
     ghost front = { λ kept. kept };
 
-    // what it tells is said of its bank, in the clauses below
+    // what the link tells is said of its bank, in the clauses below
     ghost told = { λ l. None };
 
     ghost seen = { seen_of };
@@ -125,7 +125,7 @@ impl<B: Bank> Iio for HubLink<B> {
         }
     }
 
-    // it serves no output device
+    // a hub serves no output device
     fn open_out(
         &mut self,
         _dev: u32,
@@ -331,7 +331,7 @@ impl<B: Bank> Iio for HubLink<B> {
 }
 
 impl<B: Bank> HubLink<B> {
-    /// A seat's member leaves the device, its ring is closed, and the reading ends.
+    /// Removes a seat's member from the device, closes its ring, and ends the reading.
     pub fn end_seat(&mut self, dev: u32, seat: HubSeat) -> Ended
         requires { dev < length (B.front self.old.bank).devices }
         ensures front { B.front self.new.bank ≡ B.front self.old.bank }
@@ -363,7 +363,7 @@ impl<B: Bank> HubLink<B> {
         self.bank.trigger(trigger, PollJob { t })
     }
 
-    /// Hands a device its entry of a trigger. None comes exactly where it has none that is in no hand.
+    /// Hands a device its entry of a trigger. Returns `None` exactly if it has no entry that isn't in hand already.
     pub fn handle(&mut self, trigger: u32, dev: u32) -> Option<Handled>
         requires trigger { trigger < MAX_TRIGGERS }
         requires dev { dev < length (B.front self.old.bank).devices }
@@ -399,8 +399,8 @@ impl<B: Bank> HubLink<B> {
         }
     }
 
-    /// Unplugs a device: its driver is dropped, each member leaves, and its ring is closed. It says whether the device was
-    /// plugged.
+    /// Unplugs a device: its driver is dropped, each member leaves, and each member's ring is closed. Returns whether the
+    /// device was plugged.
     pub fn unplug(&mut self, dev: u32) -> bool
         requires { dev < length (B.front self.old.bank).devices }
         ensures front { B.front self.new.bank ≡ B.front self.old.bank }

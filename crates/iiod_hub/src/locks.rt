@@ -27,10 +27,10 @@ pub struct Hub {
 
 /// A bank at which a connection can wait.
 pub trait Bellows {
-    /// How often something came for a device's members; 0 where there is no such device.
+    /// Returns how often something came for a device's members; 0 if there is no such device.
     fn bell(&self, dev: u32) -> u64;
 
-    /// Waits until that number isn't the one that was seen.
+    /// Waits until that number differs from `seen`.
     fn wait(&self, dev: u32, seen: u64);
 }
 
@@ -41,7 +41,7 @@ pub struct Locks<'a, R: Wait> {
     pub rt: &'a R,
 }
 
-// Waits for good: no lock holds what isn't its own.
+// Waits forever. Every lock holds its own device, so this isn't reached.
 fn stand_still<R: Wait>(rt: &R) -> ! {
     for _ in rt.forever() {}
     unreachable!()

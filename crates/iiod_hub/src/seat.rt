@@ -16,29 +16,29 @@ use iio_mask::Mask;
 use iiod_session::Took;
 use std::mem::replace;
 
-/// Why a read gives no scan.
+/// The reason why a read returns no scan.
 #[derive(Clone, Copy, Debug, PartialEq, Eq)]
 pub enum ReadEnd {
-    /// None waits, and the ring is open.
+    /// No scan waits, and the ring is open.
     Empty,
-    /// None waits, and none will come: the ring is closed.
+    /// No scan waits, and none will come: the ring is closed.
     Gone,
 }
 
-/// A seat: the member of the device of that number, and the end of its ring at which scans are taken. It can't be dropped.
+/// A seat: the member of the device of that number, and the end of its ring from which scans are taken. It can't be dropped.
 pub struct HubSeat {
     pub dev: u32,
     pub member: Member,
     pub mask: Mask,
     pub capacity: u32,
     pub reader: Reader,
-    /// How many takes found nothing, and whether the last of these found the ring closed.
+    /// How many takes found nothing; `gone` is whether the last of these found the ring closed.
     pub empties: u64,
     pub gone: bool,
 }
 
 impl HubSeat {
-    // A take found nothing.
+    // Counts a take that found nothing.
     fn nothing(&mut self, gone: bool) -> Took
         ensures seen { seen_of self.new ≡ record (seen_of self.old) { trace = option_map (after_nothing gone) (seen_of self.old).trace } }
         ensures took { result ≡ (if gone then Gone else Empty) }
@@ -52,8 +52,8 @@ impl HubSeat {
         if gone { Took::Gone } else { Took::Empty }
     }
 
-    /// The seat takes from another ring, whose scans are of that mask, and what it tells begins anew. The reading of the old
-    /// ring ends; the answer is how many scans were found waiting there.
+    /// Makes the seat take from another ring, whose scans are of that mask; its trace begins anew. The reading of the old ring
+    /// ends, and the number of scans that were found waiting there is returned.
     pub(crate) fn begin_anew(&mut self, mask: Mask, reader: Reader) -> u64
         ensures { self.new ≡ record self.old { mask = mask; reader = reader; empties = 0; gone = false } }
     {
@@ -66,8 +66,8 @@ impl HubSeat {
         waiting
     }
 
-    /// Takes the oldest scan that waits into `out`. It takes no lock. `Empty` comes only where a look of this call showed the
-    /// ring not closed, `Gone` only where one showed it closed.
+    /// Takes the oldest scan that waits into `out`. It takes no lock. `Empty` is returned only if a look during this call
+    /// showed that the ring wasn't closed, `Gone` only if one showed that it was closed.
     pub fn take(&mut self, out: &mut [u8]) -> Took
         requires { length out.old ≡ size_of self.old.reader }
         ensures seen { seen_of self.new ≡ record (seen_of self.old) { trace = option_map (after_take result out.new) (seen_of self.old).trace } }
@@ -83,7 +83,7 @@ impl HubSeat {
     }
 
     /// Takes the oldest scans that wait, at most `most`, and appends their bytes to `out`, which has room for `most` scans. It
-    /// takes no lock. There are fewer only where a look of this call found nothing left. `dev` is the device's number.
+    /// takes no lock. It takes fewer only if a look during this call found nothing left. `dev` is the device's number.
     pub fn take_scans(&mut self, _dev: u32, most: u32, out: &mut Vec<u8>) -> Took
         requires some { 1 ≤ most }
         requires room { length out.old.items + most * size_of self.old.reader ≤ vec_capacity out.old }

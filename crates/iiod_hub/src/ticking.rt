@@ -8,8 +8,8 @@ use crate::link::HubLink;
 use iio_io::Ticker;
 use iiod_bank::Bank;
 
-/// Takes one moment of a ticker: sets the clock to it and polls a trigger at it, once. It says whether there was a moment;
-/// where there was none nothing changes.
+/// Takes one moment of a ticker: sets the clock to it and polls a trigger at it, once. Returns whether there was a moment; if
+/// there was none, nothing changes.
 pub fn tick<B: Bank, T: Ticker>(link: &mut HubLink<B>, trigger: u32, ticker: &mut T) -> bool
     requires { trigger < MAX_TRIGGERS }
     ensures front { B.front link.new.bank ≡ B.front link.old.bank }

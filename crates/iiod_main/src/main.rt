@@ -1,4 +1,4 @@
-//! The program: it gives its words and streams, and its door or its link, to what the words ask for.
+//! The program: it passes its words and streams, and its door or its link, to the command that the words ask for.
 #![tactic(auto)]
 
 use iio_io::{StdSink, StdSource, TcpDoor, TcpLink};
@@ -10,7 +10,7 @@ use std::io::ErrorKind;
 use std::process::ExitCode;
 use std::sync::atomic::AtomicBool;
 
-// The words after the program's name. Words that aren't UTF-8 are no command, as no words are.
+// Returns the words after the program's name. If any of them isn't UTF-8, returns none; they aren't a command then.
 fn words_of(rt: &HostRuntime) -> Result<Vec<String>, Mem> {
     let alloc = rt.alloc();
     match env::args(rt) {

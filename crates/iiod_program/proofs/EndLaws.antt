@@ -1,4 +1,4 @@
--- How a run ends whose ends failed nowhere, and that words ask for one thing.
+-- How a run ends if neither its source nor its sink failed, and that words make one request.
 use Rattle.std.proofs.Common.{◌≡◌, ℕ, List, [], ◌∷◌, Option, Some, None, IfSome, Ok, refl, sym, ap, ◌∙◌, subst, arith, get_or, length, map, String, string_bytes}
 use Rattle.std.specs.Prelude.{codes, decimal}
 use Rattle.std.proofs.lemmas.Fmt.{decimal_injective}
@@ -28,7 +28,7 @@ completes outcome before WriteFault after reads reads' writes writes' wrote read
 completes outcome before Memory after reads reads' writes writes' wrote read write r w = tt
 completes outcome before TooLong after reads reads' writes writes' wrote read write r w = wrote
 
--- where both ends tell
+-- if source and sink are visible
 pub completes_told : (outcome : List ℕ → Outcome) (left written : Option (List ℕ)) (status : Status) (after : Option (List ℕ)) (reads reads' writes writes' : ℕ)
     → IfSome left (λ xs. IfSome written (λ before. Writes (outcome xs) before status after)) → (status ≡ ReadFault → Rose reads reads')
     → (status ≡ WriteFault → Rose writes writes')
@@ -38,7 +38,7 @@ completes_told outcome (Some xs) None status after reads reads' writes writes' w
 completes_told outcome (Some xs) (Some before) status after reads reads' writes writes' wrote read write r w =
     completes (outcome xs) before status after reads reads' writes writes' wrote read write r w
 
--- what holds of each input holds of the one that is told
+-- what holds of each input holds of the visible one
 pub each_input : (P : List ℕ → Type 0) (left : Option (List ℕ)) → ((xs : List ℕ) → P xs) → IfSome left P
 each_input P None all = tt
 each_input P (Some xs) all = all xs
@@ -55,9 +55,9 @@ gen_completes outcome None status after writes writes' ends wrote write w = tt
 gen_completes outcome (Some before) status after writes writes' ends wrote write w =
     completes outcome before status after 0 0 writes writes' wrote (λ is. absurd (gen_no_read_fault status ends is)) write refl w
 
--- ---- words ask for one thing
+-- ---- words make one request
 
--- lists of words that are the same are as long, and their second and third words are the same
+-- equal lists of words have the same length, and the same second and third words
 as_long : (l m : List (List ℕ)) → l ≡ m → length l ≡ length m
 as_long l m is = ap (λ (x : List (List ℕ)). length x) is
 
@@ -97,7 +97,7 @@ asks_one words Other (Layout device mask) one other = absurd (one.2 device mask 
 asks_one words Other (Gen n) one other = absurd (one.3 n other)
 asks_one words Other Other one other = refl
 
--- so what is done for what they were read to ask is done for all that they ask
+-- .. so what is done for the request that was read is done for every request of the words
 pub does_asked : {A S K : Type 0} (left : S → Option (List ℕ)) (reads : S → ℕ) (written : K → Option (List ℕ)) (writes : K → ℕ) (words : List (String A))
     (read : Request)
     (drivers : List Driver) (end : Status) (source source' : S) (sink sink' : K) → Asks words read

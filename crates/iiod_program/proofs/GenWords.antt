@@ -5,7 +5,7 @@ use Rattle.std.specs.Prelude.{codes, decimal, map, String, string_bytes}
 use Rattle.iiod_serve.proofs.WordLaws.{first_is, two_words}
 use Rattle.iiod_program.specs.Words.{IsGen}
 
--- of two words, the first of which isn't other than `gen`, the number that the second spells is theirs
+-- if the first of two words doesn't differ from `gen`, the number that the second spells is that of the words
 pub says_gen : {A : Type 0} (words : List (String A)) (u v : String A) (number : List ℕ) (r : Bool) (spelled : Option ℕ) → 2 ≤ length words → length words < 3
     → u ≡ slice_index_or words 0 u → v ≡ slice_index_or words 1 v → r ≡ not (bytes_eq (string_bytes u) (codes "gen")) → r ≡ false → number ≡ string_bytes v
     → IfSome spelled (λ n. (n < 2 ^ 64) × (number ≡ decimal n)) → IfSome spelled (λ n. IsGen words n)

@@ -104,7 +104,7 @@ front_nil : (front rest : List ℕ) → [] ≡ front ++ rest → front ≡ []
 front_nil [] rest is = refl
 front_nil (x ∷ xs) rest is = absurd (cc)
 
--- nothing was written where nothing was to be written
+-- nothing was written, because there was nothing to write
 front_none : (outcome : Outcome) (xs : List ℕ) (after : Option (List ℕ)) → WritesFront xs [] after → WritesFront xs outcome.printed after
 front_none outcome xs after f =
     record {
@@ -171,6 +171,6 @@ stops_near st (Some input) left' near = stop_near st input left' near
 pub stops_words : (st : Status) → IsStop st → st ≡ status.Usage → ⊥
 stops_words st stop is = subst IsStop is stop
 
--- what was printed is no usage line
+-- what was printed isn't the usage line
 pub no_usage : (outcome : Outcome) (st : Status) (text : List ℕ) → Prints outcome st text → st ≡ status.Usage → ⊥
 no_usage outcome st text f is = subst (λ (x : Status). Prints outcome x text) is f

@@ -17,7 +17,7 @@ no_name : (b : Bool) (text : List ℕ) → is_some (if b then Some text else Non
 no_name true text is named = false≢true (sym is)
 no_name false text is named = false≢true named
 
--- of two words, the first of which isn't other than `solo`, the second is the name, where it is one
+-- if the first of two words doesn't differ from `solo`, the second is the name, if it is one
 pub says_solo : {A : Type 0} (words : List (String A)) (u v : String A) (name : List ℕ) (r : Bool) (made : Option (List ℕ)) (none : Bool) → 2 ≤ length words
     → length words < 3
     → u ≡ slice_index_or words 0 u → v ≡ slice_index_or words 1 v → r ≡ not (bytes_eq (string_bytes u) (codes "solo")) → r ≡ false → name ≡ string_bytes v
@@ -27,7 +27,7 @@ says_solo words u v name r made none some few a b test said second makes tells i
     let named : is_name name ≡ true = some_name (is_name name) name (ap (λ (o : Option (List ℕ)). is_some o) (sym makes) ∙ tells ∙ ap not is) in
     (named, two_words words u v some few a b ∙ ap (λ (t : List ℕ). t ∷ string_bytes v ∷ []) first ∙ ap (λ (t : List ℕ). codes "solo" ∷ t ∷ []) (sym second))
 
--- where it is none, the words are others
+-- if the second isn't a name, these are other words
 pub says_other : {A : Type 0} (words : List (String A)) (u v : String A) (text : List ℕ) (made : Option (List ℕ)) (none : Bool) → 2 ≤ length words
     → length words < 3
     → u ≡ slice_index_or words 0 u → v ≡ slice_index_or words 1 v → text ≡ string_bytes v

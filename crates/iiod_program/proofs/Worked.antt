@@ -20,7 +20,7 @@ short_mask : layout_of 0 adc0 (codes "adc0") (codes "5") ≡ record { printed = 
 unfolding digits
 short_mask = refl
 
--- the device is looked for first
+-- the device is looked up first
 other_device : layout_of 0 adc0 (codes "adc1") (codes "5") ≡ record { printed = codes "refused 0 device\n"; ending = Refused 0 Device }
 unfolding digits
 other_device = refl

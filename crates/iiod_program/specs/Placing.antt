@@ -29,6 +29,6 @@ selected mask channels = filter (λ c. has mask c) (range_with_len 0 channels)
 abbrev pub scan_line : ShapeRecord → ℕ → List ℕ
 scan_line shape mask = codes "scan " ++ (decimal (scan_size shape mask) ++ 10 ∷ [])
 
--- a line for each selected channel, and the scan's
+-- a line for each selected channel, and then the scan's line
 abbrev pub layout_text : ShapeRecord → ℕ → List ℕ
 layout_text shape mask = flat_map (channel_line shape mask) (selected mask (count_of shape)) ++ scan_line shape mask

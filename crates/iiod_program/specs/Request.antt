@@ -9,7 +9,7 @@ pub data Request : Type 0 where
   Gen : (n : ℕ) → Request
   Other : Request
 
--- these words ask for it
+-- these words make that request
 abbrev pub Asks : {A : Type 0} → List (String A) → Request → Type 0
 Asks words Play = IsPlay words
 Asks words (Solo name) = IsSolo words name

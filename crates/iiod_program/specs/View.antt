@@ -1,4 +1,4 @@
--- A request of the code as the request that it is: each slice by its bytes.
+-- A request of the code as the definitions have it: each slice by its bytes.
 use Rattle.iiod_program.specs.declared.request.Request.{Request as CodeRequest}
 use Rattle.iiod_program.specs.declared.request.Request.TheVariants as code
 use Rattle.iiod_program.specs.Request.{Request, Play, Solo, Layout, Gen, Other}

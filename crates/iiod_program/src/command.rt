@@ -19,12 +19,12 @@ use iiod_serve::print_usage;
 use std::alloc::Global;
 
 /// Does what the words after the program's name ask for. `play` plays the input that the source has left, with the drivers
-/// that its description names by their numbers. `solo NAME` plays it too, and prints what it prints for the connection of that
-/// name without the steps of others, the line `%%`, and what it prints with them; a line that fails, and the first step that isn't
-/// a bystander's, are refused instead, and alone. `layout DEVICE MASK` reads the description of that input alone, and
-/// prints where the channels of the mask stand in a scan of the device; an unknown device and a wrong mask are refused at
-/// line 0. `gen N` makes an input from a number, plays it without drivers, and prints what is counted in it. Other words,
-/// and none, print the line that names the commands. Like `gen N`, they leave the input alone.
+/// that its description names by their numbers. `solo NAME` plays it too, and prints what it prints for the connection of
+/// that name without the steps of others, the line `%%`, and what it prints with them; if a line fails, or else a step isn't
+/// a bystander's, then only the refusal of the first such line is printed. `layout DEVICE MASK` reads only the description of
+/// that input, and prints where the channels of the mask stand in a scan of the device; an unknown device and a wrong mask
+/// are refused at line 0. `gen N` makes an input from a number, plays it without drivers, and prints its counts. Other words,
+/// or none, print the line that names the commands. Like `gen N`, they leave the input alone.
 pub fn run<S: Source, K: Sink>(
     alloc: Global,
     words: &[String],

@@ -8,7 +8,7 @@ use iio_script::{Mem, Status};
 use iiod_serve::ServeStatus;
 use std::process::ExitCode;
 
-/// How what the program did ended.
+/// How the program's command ended.
 #[derive(Clone, Copy, Debug, PartialEq, Eq)]
 pub enum End {
     /// A run over an input.
@@ -17,7 +17,7 @@ pub enum End {
     Serve(ServeStatus),
 }
 
-/// The exit code of what ended so, or for which memory ran out before it began.
+/// Returns the exit code of a command that ended like this, or for which memory ran out before it began.
 pub fn exit_code(end: Result<End, Mem>) -> ExitCode
     ensures { exit_status result ≡ end_code end }
 {

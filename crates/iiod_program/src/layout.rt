@@ -15,7 +15,8 @@ use iio_text::Why;
 use iiod_serve::read_description;
 use std::alloc::Global;
 
-// The layout of a device of a description; that of an output device or of an averaging device isn't known.
+// Appends the layout of a device of a description, or its refusal:
+// output devices and averaging devices are refused as unknown ones are.
 fn lay_out(
     alloc: Global,
     desc: &Desc,
@@ -57,8 +58,8 @@ fn lay_device<K: Sink>(
 }
 
 /// Reads a description, which may use `drivers` drivers, from a source, and writes to a sink where each channel of the mask
-/// stands in a scan of the device, and the scan's size. What stands after the line that ends the description isn't looked at,
-/// and at most a piece was taken after the byte at which a line failed. Where a read fails, nothing is written.
+/// stands in a scan of the device, and the scan's size. What comes after the line that ends the description isn't looked at,
+/// and at most a piece was taken after the byte at which a line failed. If a read fails, nothing is written.
 pub fn layout<S: Source, K: Sink>(
     alloc: Global,
     drivers: u32,

@@ -1,4 +1,4 @@
-//! What the program does for its words, over whatever input, output and door it is handed.
+//! What the program does for its words, over any input, output and door.
 #![tactic(auto)]
 
 mod command;

@@ -16,7 +16,7 @@ ghost use Rattle.iio_script.specs.declared.line_reader.TheConstants.{MAX_PIECE_B
 ghost use Rattle.iiod_server.specs.declared.living.TheConstants.{MAX_CONNECTIONS};
 
 /// The law that these limits are the numbers of docs/FORMATS.md: those of section 16, the repeat of a type (section 4), the
-/// buffers count before a SET (section 11), and the bytes that a read asks for (section 2). The call does nothing.
+/// buffers count before a SET (section 11), and the number of bytes that a read asks for (section 2). The call does nothing.
 pub fn limits_are_these()
     ensures input { MAX_INPUT_BYTES ≡ 67108864 }
     ensures piece { MAX_PIECE_BYTES ≡ 65536 }

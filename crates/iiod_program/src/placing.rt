@@ -15,7 +15,7 @@ use iio_script::{Mem, Status, push_digits, push_refused};
 use iio_text::Why;
 use std::alloc::Global;
 
-// The ID of a channel.
+// Appends the ID of a channel.
 fn push_name(out: &mut Vec<u8>, shape: &Shape, c: u32) -> Result<(), Mem>
     ensures { OnOk result (out.new.items ≡ out.old.items ++ channel_name shape.now c) }
 {
@@ -52,7 +52,7 @@ fn push_channel(
     Ok(())
 }
 
-// The lines of the selected channels.
+// Appends the lines of the selected channels.
 fn push_channels(alloc: Global, out: &mut Vec<u8>, shape: &Shape, mask: Mask) -> Result<(), Mem>
     requires { mask.bits < 2 ^ count_of shape.now }
     ensures { OnOk result (out.new.items ≡ out.old.items ++ flat_map (channel_line shape.now mask.bits) (selected mask.bits (count_of shape.now))) }
@@ -76,7 +76,7 @@ fn push_scan(out: &mut Vec<u8>, shape: &Shape, mask: Mask) -> Result<(), Mem>
     Ok(())
 }
 
-// The places of the selected channels, and the scan's size.
+// Appends the lines of the selected channels, and the scan's size.
 fn push_layout(alloc: Global, out: &mut Vec<u8>, shape: &Shape, mask: Mask) -> Result<(), Mem>
     requires { mask.bits < 2 ^ count_of shape.now }
     ensures { OnOk result (out.new.items ≡ out.old.items ++ layout_text shape.now mask.bits) }
@@ -85,7 +85,7 @@ fn push_layout(alloc: Global, out: &mut Vec<u8>, shape: &Shape, mask: Mask) -> R
     push_scan(out, shape, mask)
 }
 
-/// The layout of a shape's scans under the mask that a text says, or the refusal of that text.
+/// Appends the layout of a shape's scans under the mask that a text gives, or the refusal of that text. Returns the status.
 pub fn lay_under(
     alloc: Global,
     shape: &Shape,

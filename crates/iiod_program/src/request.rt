@@ -8,7 +8,7 @@ ghost use Rattle.iiod_program.specs.Words.{IsPlay, IsSolo, IsLayout, IsGen};
 use iio_attr::Name;
 use iiod_serve::read_spelled;
 
-/// What the program is asked for.
+/// The request that the program's words make.
 #[derive(Clone, Copy, Debug)]
 pub enum Request<'a> {
     /// `play`: the transcript of the input.
@@ -17,7 +17,7 @@ pub enum Request<'a> {
     Solo { name: &'a [u8] },
     /// `layout DEVICE MASK`: where the channels of the mask stand in a scan of the device.
     Layout { device: &'a [u8], mask: &'a [u8] },
-    /// `gen N`: what is counted in the input that the number makes.
+    /// `gen N`: the counts of the input that the number makes.
     Gen(u64),
     /// Other words, or none.
     Other,
@@ -32,7 +32,7 @@ fn is_play(words: &[String]) -> bool
     }
 }
 
-// The name of the words `solo NAME`. None exactly for other words.
+// Returns the name of the words `solo NAME`. `None` exactly for other words.
 fn solo_words(words: &[String]) -> Option<&[u8]>
     ensures found { IfSome result (λ name. IsSolo words.now name.now) }
     ensures none { IsNone result → (name : List ℕ) → IsSolo words.now name → ⊥ }
@@ -50,7 +50,7 @@ fn solo_words(words: &[String]) -> Option<&[u8]>
     Some(name)
 }
 
-// The device and the mask of the words `layout DEVICE MASK`. None exactly for other words.
+// Returns the device and the mask of the words `layout DEVICE MASK`. `None` exactly for other words.
 fn layout_words(words: &[String]) -> Option<(&[u8], &[u8])>
     ensures found { IfSome result (λ named. IsLayout words.now named.0.now named.1.now) }
     ensures none { IsNone result → (device mask : List ℕ) → IsLayout words.now device mask → ⊥ }
@@ -64,7 +64,7 @@ fn layout_words(words: &[String]) -> Option<(&[u8], &[u8])>
     Some((device.as_bytes(), mask.as_bytes()))
 }
 
-// The number of the words `gen N`. None exactly for other words.
+// Returns the number of the words `gen N`. `None` exactly for other words.
 fn gen_words(words: &[String]) -> Option<u64>
     ensures found { IfSome result (λ n. IsGen words.now n) }
     ensures none { IsNone result → (n : ℕ) → IsGen words.now n → ⊥ }
@@ -78,7 +78,7 @@ fn gen_words(words: &[String]) -> Option<u64>
     read_spelled(number.as_str())
 }
 
-/// What the words after the program's name ask for.
+/// Returns what the words after the program's name ask for.
 pub fn request_of(words: &[String]) -> Request<'_>
     ensures { Asks words.now (request_view result) }
 {

@@ -1,4 +1,4 @@
-//! A run or a server, by the first word.
+//! Chooses between a run and a server by the first word.
 
 ghost use Rattle.std.specs.Prelude.{◌≡◌, false, IfSome, Ok, map};
 ghost use Rattle.iio_device.specs.declared.plug.Plug.TheVariants.{Given};
@@ -26,7 +26,7 @@ fn is_server(words: &[String]) -> bool
     }
 }
 
-// A run with the program's four drivers.
+// Does a run with the program's four drivers.
 fn run_with<S: Source, K: Sink>(
     alloc: Global,
     words: &[String],
@@ -41,8 +41,8 @@ fn run_with<S: Source, K: Sink>(
     End::Run(run(alloc, words, drivers, input, output))
 }
 
-/// Does what the words say, with four drivers: 0 and 1 are ramps, 2 and 3 are ramps whose second ask fails. Words that begin
-/// with `serve` are a server's, over the door; all others are [`run`](crate::run)'s.
+/// Does what the words say, with four drivers: 0 and 1 are ramps, 2 and 3 are ramps whose second ask fails. If the first word
+/// is `serve`, the words start a server over the door; all others are those of [`run`](crate::run).
 pub fn end_of<R: Threads + Wait + Sync, S: Source, K: Sink, D: Listen>(
     rt: &R,
     alloc: Global,

@@ -1,4 +1,5 @@
-//! The program's words over sources and sinks in memory. Expected texts by hand. Scripts are played in `iio_script_tests`.
+//! The program's words over sources and sinks in memory. The expected
+//! texts were written by hand. Scripts are played in `iio_script_tests`.
 
 mod gen_words;
 mod inputs;

@@ -1,4 +1,4 @@
--- The status that an input and the answers over a link come to.
+-- The status to which an input and the answers over a link come.
 use Rattle.std.proofs.Common.{◌≡◌, ◌⊎◌, ◌∙◌, inl, inr, ℕ, List, [], Option, Some, None, IfSome, Result, Ok, Err, refl, sym, ap, subst}
 use Rattle.iio_text.specs.declared.refusals.Why.{Why}
 use Rattle.iio_desc.specs.declared.reader.DescFault.TheVariants.{Line, Mem}
@@ -49,7 +49,7 @@ read_due w end result due left left' same is exact (bytes, told, at, e, comes) =
     let by = subst (λ (x : Option (List ℕ)). IfSome x (λ bs. reading.EndsBy w bs end)) (same ∙ told) exact in
     due_at due (of_client at) result (of_client end) e is (of_reading at end (by at comes))
 
--- ---- where the reading of the description gave the status
+-- ---- if the reading of the description gave the status
 
 refused_due : (line : ℕ) (why : Why) (st : Status) → HasStatus (only_ending (script.Refused line why)) st → IsDueOr (status.Refused line why) (of_run st)
 refused_due line why run.Done has = absurd cc
@@ -69,7 +69,7 @@ cut_due run.WriteFault has = inr tt
 cut_due run.Memory has = inr tt
 cut_due run.TooLong has = inl refl
 
--- a description that is read gives no status but of a failure
+-- for a description that is read, only a failure gives a status
 read_fails : (st : Status) → IsStop st → HasStatus (only_ending script.Finished) st → IsFailure (of_run st)
 read_fails run.Done stop has = absurd stop
 read_fails (run.Refused n w) stop has = absurd cc

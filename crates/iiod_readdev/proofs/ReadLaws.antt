@@ -1,4 +1,4 @@
--- A device that is read over a link which is begun for it.
+-- A device is read over a link that is begun for it.
 use Rattle.std.proofs.Common.{◌≡◌, ℕ, List, [], Option, Some, None, IfSome, sym, subst, take, drop}
 use Rattle.std.proofs.lemmas.List.{take-append-drop}
 use Rattle.iio_io.specs.Bytes.{WritesPart}
@@ -15,7 +15,7 @@ pub front_of_part : (bytes : List ℕ) (before after : Option (List ℕ)) → If
 front_of_part bytes None after part = tt
 front_of_part bytes (Some xs) after part = (take part.count bytes, drop part.count bytes, sym (take-append-drop part.count bytes), part.appended)
 
--- beginning the connection changed nothing of what the link tells
+-- beginning the connection changed nothing that is visible of the link
 pub read_after : (w : Wanted) (end : ClientEnd) (result : ReadStatus) (l l' s s' o : Option (List ℕ)) (b : Point) → l' ≡ l → s' ≡ s → result ≡ of_client end
     → Ends w end (point l' [] s' o) b → EndsRead w result (point l [] s o) b
 read_after w end result l l' s s' o b left sent is ends = record {

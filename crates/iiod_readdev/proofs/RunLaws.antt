@@ -1,4 +1,4 @@
--- `readdev` where it ends as a run does.
+-- `readdev` when it ends like a run.
 use Rattle.std.proofs.Common.{◌≡◌, ℕ, List, [], Option, Some, None, IfSome, inl, inr, refl, subst}
 use Rattle.iio_text.specs.declared.refusals.Why.{Why}
 use Rattle.iio_history.specs.Script as script

@@ -1,4 +1,4 @@
--- Lists of six words, and what they say.
+-- Lists of six words, and their meaning.
 use Rattle.std.proofs.Common.{◌≡◌, ◌<◌, ◌≤◌, ◌∙◌, ℕ, Bool, true, false, not, refl, List, [], ◌∷◌, length, get_or, slice_index_or, arith, ap, sym, Some}
 use Rattle.std.proofs.lemmas.Bool.{false≢true}
 use Rattle.std.proofs.lemmas.Slice.Eq.{bytes_eq-Decides}
@@ -23,7 +23,7 @@ six_words (x0 ∷ x1 ∷ x2 ∷ x3 ∷ x4 ∷ []) a b c d e f some few ea eb ec 
 six_words (x0 ∷ x1 ∷ x2 ∷ x3 ∷ x4 ∷ x5 ∷ []) a b c d e f some few ea eb ec ed ee ef = rw (ea, eb, ec, ed, ee, ef) refl
 six_words (x0 ∷ x1 ∷ x2 ∷ x3 ∷ x4 ∷ x5 ∷ x6 ∷ xs) a b c d e f some few ea eb ec ed ee ef = absurd (omega arith)
 
--- the six words, where the first is the text
+-- the six words, if the first of them is the text
 pub says_six : {A : Type 0} (words : List (String A)) (a b c d e f : String A) (text address device mask : List ℕ) (r : Bool) → 6 ≤ length words
     → length words < 7
     → a ≡ slice_index_or words 0 a → b ≡ slice_index_or words 1 b → c ≡ slice_index_or words 2 c → d ≡ slice_index_or words 3 d → e ≡ slice_index_or words 4 e
@@ -52,7 +52,7 @@ same_words a b address device samples mask scans =
     ∙ ap (λ v. make b.address b.device b.samples v a.scans) mask
     ∙ ap (λ v. make b.address b.device b.samples b.mask v) scans
 
--- words say one thing
+-- words have one meaning
 pub one_meaning : {A : Type 0} (words : List (String A)) (a b : ReaddevWords) → IsReaddev words a → IsReaddev words b → a ≡ b
 one_meaning words a b x y =
     let all = sym x.words_are ∙ y.words_are in

@@ -1,4 +1,4 @@
--- The code that the process ends with for words that begin with `readdev`, and what they did. (This project's own.)
+-- The exit code of the process for words that begin with `readdev`, and what they did. (This project's own.)
 use Rattle.std.specs.Prelude.{◌≡◌, ℕ, List, String, Option, IfSome}
 use Rattle.iiod_client.specs.Point.{Point}
 use Rattle.iiod_readdev.specs.declared.read_status.ReadStatus.{ReadStatus}
@@ -8,7 +8,7 @@ use Rattle.iiod_readdev.specs.Reading.{DoesReaddev, NamesCommands}
 use Rattle.iiod_readdev.specs.ReadStatus.{read_code}
 use Rattle.iiod_readdev.specs.Words.{IsNoReaddev, IsReaddev, ReaddevWords}
 
--- what the input, the link and the output tell at a moment, and their counts of faults
+-- what is visible of the input, the link and the output at a moment, and their counts of faults
 pub record Streams : Type 0 where
   pub input : Option (List ℕ)
   pub over : Point
@@ -16,9 +16,9 @@ pub record Streams : Type 0 where
   pub link_faults : ℕ
   pub output_faults : ℕ
 
--- the code is that of a status, and so the words ended between two moments: at a description that may use that many drivers, the
--- six words did what they say, and printed nothing where a read of the input failed; other words printed the line that names
--- the commands. What was received and not looked at is free
+-- the code is that of a status with which the words ended between two moments: for a description that may use that many
+-- drivers, the six words did what they say, and printed nothing if a read of the input failed; other words printed the line
+-- that names the commands. Nothing is said of what was received and not looked at
 pub record EndsWithCode {A O : Type 0} (drivers : ℕ) (words : List (String A)) (code : ℕ) (a b : Streams) (output output' : O) : Type 0 where
   pub status : ReadStatus
   pub code_is : code ≡ read_code status

@@ -7,7 +7,7 @@ use Rattle.iiod_client.specs.declared.client_end.ClientEnd.TheVariants as client
 use Rattle.iiod_readdev.specs.declared.read_status.ReadStatus.{ReadStatus}
 use Rattle.iiod_readdev.specs.declared.read_status.ReadStatus.TheVariants.{Done, Refused, Usage, ReadFault, WriteFault, Memory, TooLong, NoAddress, LinkFault, Malformed, Cut, Answered}
 
--- the number that a process ends with
+-- the exit code of a process
 abbrev pub read_code : ReadStatus → ℕ
 read_code Done = 0
 read_code (Refused line why) = 1
@@ -22,7 +22,7 @@ read_code Malformed = 9
 read_code Cut = 10
 read_code (Answered n) = 11
 
--- the status where the description gave none
+-- the status of a run that ended without a description
 abbrev pub of_run : Status → ReadStatus
 of_run run.Done = Done
 of_run (run.Refused line why) = Refused line why

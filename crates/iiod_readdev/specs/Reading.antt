@@ -1,5 +1,5 @@
--- What `readdev` makes of an input, and what it then prints and sends. (This project's own; the reading over the link is
--- that of `iiod_client`.)
+-- What `readdev` does for an input, and what it then prints and sends.
+-- (This project's own; the reading over the link is that of `iiod_client`.)
 use Rattle.std.specs.Prelude.{◌≡◌, ◌⊎◌, ℕ, suc, List, [], ◌∷◌, ◌++◌, codes, Option, Some, IfSome, Result, Ok, Err}
 use Rattle.iio_text.specs.declared.refusals.Why.{Why}
 use Rattle.iio_desc.specs.declared.reader.DescFault.TheVariants.{Line, Mem}
@@ -22,7 +22,7 @@ use Rattle.iiod_readdev.specs.ReadStatus.{of_client, of_run}
 use Rattle.iiod_readdev.specs.Wanted.{wanted_of}
 use Rattle.iiod_readdev.specs.Words.{ReaddevWords}
 
--- the line where the connection couldn't be begun
+-- the line that is printed if the connection couldn't be begun
 abbrev pub no_address_line : List ℕ
 no_address_line = codes "no address" ++ 10 ∷ []
 
@@ -32,8 +32,7 @@ pub record IsUntouched (a b : Point) : Type 0 where
   pub pending : b.pending ≡ a.pending
   pub sent : b.sent ≡ a.sent
 
--- it ended as a run does whose outcome is this one, and nothing came or went over the link; where a read failed, nothing
--- was printed
+-- it ended like a run with this outcome, and nothing came or went over the link; if a read failed, nothing was printed
 pub record EndsAsRun (outcome : Outcome) (end : ReadStatus) (a b : Point) : Type 0 where
   pub run : Status
   pub ends : end ≡ of_run run
@@ -43,7 +42,7 @@ pub record EndsAsRun (outcome : Outcome) (end : ReadStatus) (a b : Point) : Type
   pub nothing : run ≡ run_status.ReadFault → b.printed ≡ a.printed
   pub untouched : IsUntouched a b
 
--- the connection couldn't be begun: that is printed, or a front part of it where a write failed
+-- the connection couldn't be begun: the line for that is printed, or a front part of it if a write failed
 abbrev pub EndsUndialled : ReadStatus → (a b : Point) → Type 0
 EndsUndialled status.NoAddress a b = Wrote a.printed no_address_line b.printed × IsUntouched a b
 EndsUndialled status.WriteFault a b = WroteFront a.printed no_address_line b.printed × IsUntouched a b
@@ -55,7 +54,7 @@ pub record EndsRead (w : Wanted) (end : ReadStatus) (a b : Point) : Type 0 where
   pub ends : end ≡ of_client client
   pub read : Ends w client a b
 
--- what is made of the words at a description: they are refused at line 0, or what they want is read
+-- what the words do for a description: they are refused at line 0, or what they want is read
 abbrev pub ReadsFrom : Result Wanted Why → ReadStatus → (a b : Point) → Type 0
 ReadsFrom (Err why) end a b = EndsAsRun (only_ending (Refused 0 why)) end a b
 ReadsFrom (Ok w) end a b = EndsUndialled end a b ⊎ EndsRead w end a b
@@ -66,11 +65,11 @@ pub record ReadsDescribed (head : Head) (said : ReaddevWords) (end : ReadStatus)
   pub says : Says desc head
   pub reads : ReadsFrom (wanted_of desc said) end a b
 
--- what is made of the words at an input, whose description may use `drivers` drivers
+-- what the words do for an input, whose description may use `drivers` drivers
 abbrev pub ReadsInput : (drivers : ℕ) → ReaddevWords → (input : List ℕ) → ReadStatus → (a b : Point) → Type 0
 ReadsInput drivers said input end a b = EndsAsRun (served_of drivers input) end a b ⊎ ReadsDescribed (head_of drivers input) said end a b
 
--- where a line of the description is refused, not much more was taken than up to its end; line 0 has the program's words
+-- if a line of the description is refused, not much more was taken than up to its end; line 0 stands for the program's words
 abbrev pub TakesForLine : ReadStatus → List ℕ → Option (List ℕ) → Type 0
 TakesForLine (status.Refused (suc n) why) left remaining = TakesNear (suc n) left remaining
 TakesForLine end left remaining = Unit {0}
@@ -82,7 +81,7 @@ pub record NamesCommands (end : ReadStatus) (before after : Option (List ℕ)) :
   pub usage : IsUsage run
   pub line : IfSome before (λ ys. PrintsUsage ys run after)
 
--- the ends once a description was read. Cited by private functions alone.
+-- the ends after a description was read. Only private functions cite this
 abbrev pub IsDescribed : ReadStatus → Type 0
 IsDescribed status.Usage = ⊥
 IsDescribed status.ReadFault = ⊥
@@ -90,22 +89,22 @@ IsDescribed status.TooLong = ⊥
 IsDescribed (status.Refused (suc n) why) = ⊥
 IsDescribed end = Unit {0}
 
--- ---- the status that an input and the answers over a link come to
+-- ---- the status to which an input and the answers over a link come
 
--- what is wanted of a description comes to this status, over a link with these bytes left, where it tells them: the words are
+-- what is wanted of a description leads to this status, over a link with these bytes left, if they are visible: the words are
 -- refused at line 0, or the bytes come to the end of a reading
 abbrev pub WantedComesTo : Result Wanted Why → (left : Option (List ℕ)) → ReadStatus → Type 0
 WantedComesTo (Err why) left due = due ≡ status.Refused 0 why
 WantedComesTo (Ok w) left due = (bytes : List ℕ) × (left ≡ Some bytes) × (end : ClientEnd) × (due ≡ of_client end) × ComesTo w bytes end
 
--- the head of an input comes to it: a line of the description is refused, or it is too long, or it is a description
+-- the head of an input leads to this status: a line of the description is refused, or it is too long, or it is a description
 abbrev pub HeadComesTo : Head → ReaddevWords → (left : Option (List ℕ)) → ReadStatus → Type 0
 HeadComesTo (Described desc first lines) said left due = WantedComesTo (wanted_of desc said) left due
 HeadComesTo (Faulty (Line n why)) said left due = due ≡ status.Refused n why
 HeadComesTo (Faulty Mem) said left due = ⊥
 HeadComesTo Cut said left due = due ≡ status.TooLong
 
--- the statuses at which a call failed or memory ran out
+-- the statuses after a failed call or lack of memory
 abbrev pub IsFailure : ReadStatus → Type 0
 IsFailure status.ReadFault = Unit {0}
 IsFailure status.WriteFault = Unit {0}
@@ -114,7 +113,7 @@ IsFailure status.NoAddress = Unit {0}
 IsFailure status.LinkFault = Unit {0}
 IsFailure end = ⊥
 
--- it ended as was due, unless a call failed or memory ran out
+-- it ended as it should, unless a call failed or memory ran out
 abbrev pub IsDueOr : (due end : ReadStatus) → Type 0
 IsDueOr due end = (end ≡ due) ⊎ IsFailure end
 
@@ -122,7 +121,7 @@ IsDueOr due end = (end ≡ due) ⊎ IsFailure end
 abbrev pub EndsBy : (drivers : ℕ) → ReaddevWords → (input : List ℕ) → (left : Option (List ℕ)) → ReadStatus → Type 0
 EndsBy drivers said input left end = (due : ReadStatus) → HeadComesTo (head_of drivers input) said left due → IsDueOr due end
 
--- what the words did at an input, of which `remaining` is left and whose description may use that many drivers
+-- what the words did for an input, of which `remaining` is left and whose description may use that many drivers
 pub record DoesReaddev (drivers : ℕ) (said : ReaddevWords) (input : List ℕ) (remaining : Option (List ℕ)) (end : ReadStatus) (a b : Point) : Type 0 where
   pub reads : ReadsInput drivers said input end a b
   pub exact : EndsBy drivers said input a.left end

@@ -9,11 +9,11 @@ use Rattle.iio_desc.specs.Description.{Description, DeviceRecord, find_device}
 use Rattle.iiod_client.specs.Ask.{Wanted}
 use Rattle.iiod_readdev.specs.Words.{ReaddevWords}
 
--- a mask, where it has a data channel
+-- a mask, if it has a data channel
 abbrev pub with_data : ShapeRecord → (mask : ℕ) → Option ℕ
 with_data shape mask = if has_data shape mask then Some mask else None
 
--- the mask that a text says of a device, where it has a data channel
+-- the mask of a device that a text gives, if it has a data channel
 abbrev pub data_mask : ShapeRecord → List ℕ → Option ℕ
 data_mask shape text = option_and_then (λ mask. with_data shape mask) (mask_of text (count_of shape))
 
@@ -22,7 +22,7 @@ abbrev pub wanted_under : ShapeRecord → ReaddevWords → Option ℕ → Result
 wanted_under shape said None = Err Mask
 wanted_under shape said (Some mask) = Ok (record { device = said.device; shape = shape; mask = mask; samples = said.samples; scans = said.scans })
 
--- what is wanted of the device of the words; it is looked for before the mask is read
+-- what is wanted of the device of the words; the device is looked up before the mask is read
 abbrev pub wanted_at : ReaddevWords → Option DeviceRecord → Result Wanted Why
 wanted_at said None = Err Device
 wanted_at said (Some device) = wanted_under device.shape said (data_mask device.shape said.mask)

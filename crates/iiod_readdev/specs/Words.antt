@@ -15,7 +15,7 @@ pub record ReaddevWords : Type 0 where
 abbrev pub words_of : Words → ReaddevWords
 words_of w = record { address = w.address.now; device = w.device.now; samples = w.samples; mask = w.mask.now; scans = w.scans }
 
--- the number of a text, which is at least 1
+-- the number of a text, if it is at least 1
 abbrev pub amount_of : List ℕ → Option ℕ
 amount_of text = unless_zero (number_of text)
 

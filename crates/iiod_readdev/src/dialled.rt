@@ -1,4 +1,4 @@
-//! A device that is read over a link which is begun for it.
+//! Reads a device over a link that is begun for it.
 
 ghost use Rattle.std.specs.Prelude.{◌≡◌, ◌⊎◌, ℕ, [], List, Option, Ok};
 ghost use Rattle.iio_base.specs.Faults.{Rose};
@@ -15,7 +15,7 @@ use std::alloc::Global;
 
 const NO_ADDRESS: &[u8] = b"no address\n";
 
-// The end where the connection couldn't be begun.
+// The end if the connection couldn't be begun.
 fn end_undialled<K: Sink>(output: &mut K) -> ReadStatus
     ensures ends { (left : Option (List ℕ)) (left' : Option (List ℕ)) (sent : Option (List ℕ)) (sent' : Option (List ℕ)) → left' ≡ left → sent' ≡ sent →
         EndsUndialled result (point left [] sent (K.written output.old)) (point left' [] sent' (K.written output.new)) }
@@ -30,7 +30,7 @@ fn end_undialled<K: Sink>(output: &mut K) -> ReadStatus
     }
 }
 
-/// Begins the connection at an address, and reads the device over it. Where it can't be begun, `no address` is printed.
+/// Begins the connection at an address, and reads the device over it. If it can't be begun, `no address` is printed.
 pub(crate) fn dial_and_read<K: Sink, L: Dial>(
     alloc: Global,
     ask: &Ask<'_>,

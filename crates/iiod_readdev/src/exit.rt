@@ -13,7 +13,7 @@ use iio_io::{Dial, Sink, Source};
 use std::alloc::Global;
 use std::process::ExitCode;
 
-// How many drivers a description may use: as many as the program has.
+// The number of drivers that a description may use: as many as the program has.
 const DRIVERS: u32 = 4;
 
 /// Whether the first word is `readdev`.
@@ -33,7 +33,7 @@ fn exit_code(status: ReadStatus) -> ExitCode
     ExitCode::from(status.code())
 }
 
-/// Does what [`readdev`](crate::readdev) does, with a description that may use four drivers, and gives the exit code of its
+/// Does what [`readdev`](crate::readdev) does, with a description that may use four drivers, and returns the exit code of its
 /// status.
 pub fn exit_of<S: Source, K: Sink, L: Dial>(
     alloc: Global,

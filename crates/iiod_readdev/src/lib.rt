@@ -1,4 +1,4 @@
-//! `readdev`: the device of a description is read over a link, and its scans are printed.
+//! `readdev`: reads a device of a description over a link, and prints its scans.
 #![tactic(auto)]
 
 mod dialled;

@@ -10,11 +10,11 @@ use iiod_client::ClientEnd;
 /// How `readdev` ended.
 #[derive(Clone, Copy, Debug, PartialEq, Eq)]
 pub enum ReadStatus {
-    /// All scans that were wanted came and were printed, and the server confirmed the end.
+    /// All wanted scans came and were printed, and the server confirmed the end.
     Done,
-    /// The description was refused at this line, or, at line 0, the device or the mask among the words.
+    /// The description was refused at this line; at line 0, the device or the mask among the words was refused.
     Refused { line: u32, why: Why },
-    /// The words are no `readdev`.
+    /// The words aren't those of `readdev`.
     Usage,
     /// A read of the description failed.
     ReadFault,
@@ -22,13 +22,13 @@ pub enum ReadStatus {
     WriteFault,
     /// Memory ran out.
     Memory,
-    /// The description has more bytes than are looked at, and no line of it that is looked at fails.
+    /// The description has more bytes than are looked at, and no looked-at line of it fails.
     TooLong,
     /// The connection couldn't be begun at the address.
     NoAddress,
     /// A call of the link failed.
     LinkFault,
-    /// What came is no answer.
+    /// What came isn't an answer.
     Malformed,
     /// The link ended before an answer's end.
     Cut,
@@ -37,7 +37,7 @@ pub enum ReadStatus {
 }
 
 impl ReadStatus {
-    /// The number that a process ends with.
+    /// Returns the exit code of the process.
     pub fn code(&self) -> u8
         ensures { result ≡ read_code self.now }
     {
@@ -57,7 +57,7 @@ impl ReadStatus {
         }
     }
 
-    // The status where the description was read as a run reads it, and gave none.
+    // Returns the status of a run that ended without a description.
     pub(crate) fn of_run(status: Status) -> ReadStatus
         ensures { result ≡ of_run status }
     {
@@ -72,7 +72,7 @@ impl ReadStatus {
         }
     }
 
-    // The status of a reading over the link.
+    // Returns the status of a reading over the link.
     pub(crate) fn of_client(end: ClientEnd) -> ReadStatus
         ensures { result ≡ of_client end }
     {

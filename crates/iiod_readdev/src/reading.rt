@@ -19,7 +19,7 @@ use iio_script::end_refused;
 use iiod_serve::{print_usage, read_description};
 use std::alloc::Global;
 
-// Reads what the words want of a description, or prints why they are refused.
+// Reads over a link what the words want of a description, or prints why they are refused.
 fn read_described<K: Sink, L: Dial>(
     alloc: Global,
     desc: &Desc,
@@ -42,13 +42,13 @@ fn read_described<K: Sink, L: Dial>(
 }
 
 /// Does what the words `readdev ADDRESS DEVICE SAMPLES MASK SCANS` say: reads the description at the head of the input, which
-/// may use `drivers` drivers, begins the connection at the address, and reads SCANS scans of the device under the mask over it,
-/// as `read_device` does; the server is to keep SAMPLES samples. Both numbers are decimal and at least 1.
+/// may use `drivers` drivers, begins the connection at the address, and reads SCANS scans of the device under the mask over
+/// it, as `read_device` does; the server is to keep SAMPLES samples. Both numbers are decimal and at least 1.
 ///
-/// A description that is refused, or that is longer than is looked at, is reported as by `layout`. The device and then the mask
-/// are refused at line 0: `Device` where the description has none of the name, `Mask` where the text is no mask of it, or has
-/// no data channel. The link isn't touched then. Where the connection can't be begun, `no address` is printed. Other words
-/// print the line that names the commands, and leave the input and the link alone.
+/// A description that is refused, or that is longer than is looked at, is reported as by `layout`. After that the device and
+/// then the mask may be refused, at line 0: `Device` if the description has no device of that name, `Mask` if the text is no
+/// mask of the device, or has no data channel. In all these cases the link isn't touched. If the connection can't be begun,
+/// `no address` is printed. Other words print the line that names the commands, and leave the input and the link alone.
 pub fn readdev<S: Source, K: Sink, L: Dial>(
     alloc: Global,
     words: &[String],
@@ -57,13 +57,13 @@ pub fn readdev<S: Source, K: Sink, L: Dial>(
     output: &mut K,
     link: &mut L,
 ) -> ReadStatus
-    // What was sent and printed, and why; `pending` was received, and stands after what was heard.
+    // What was sent and printed, and why; `pending` was received, and comes after what was heard.
     ensures reads { (said : ReaddevWords) → IsReaddev words.now said
         → IfSome (S.left input.old) (λ left. (pending : List ℕ) × ReadsInput drivers said left result
         (point (L.left link.old) [] (L.written link.old) (K.written output.old))
         (point (L.left link.new) pending (L.written link.new) (K.written output.new))) }
     ensures taken { (said : ReaddevWords) → IsReaddev words.now said → IfSome (S.left input.old) (λ left. TakesBlocks left (S.left input.new)) }
-    // Where a line of the description is refused, at most 65,536 bytes were taken after the byte at which it failed.
+    // If a line of the description is refused, at most 65,536 bytes were taken after the byte at which it failed.
     ensures near { (said : ReaddevWords) → IsReaddev words.now said → IfSome (S.left input.old) (λ left. TakesForLine result left (S.left input.new)) }
     ensures nothing { (said : ReaddevWords) → IsReaddev words.now said → result ≡ ReadStatus.ReadFault → output.new ≡ output.old }
     ensures words { (said : ReaddevWords) → IsReaddev words.now said → result ≡ ReadStatus.Usage → ⊥ }
@@ -72,8 +72,8 @@ pub fn readdev<S: Source, K: Sink, L: Dial>(
     ensures undialled { IsNoReaddev words.now → link.new ≡ link.old }
     ensures counts { ShowsCounts result (S.faults input.old) (S.faults input.new) (L.faults link.old) (L.faults link.new) (K.faults output.old)
         (K.faults output.new) }
-    // The status is the one that the input comes to, and over a link that tells its bytes these, unless a call fails or memory
-    // runs out.
+    // The status is the one to which the input and, over a visible
+    // link, its bytes come, unless a call failed or memory ran out.
     ensures exact { (said : ReaddevWords) → IsReaddev words.now said → IfSome (S.left input.old) (λ left. EndsBy drivers said left (L.left link.old) result) }
 {
     let Some(words) = read_words(words) else {

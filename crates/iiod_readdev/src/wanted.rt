@@ -14,7 +14,7 @@ use iio_mask::Mask;
 use iio_text::Why;
 use iiod_client::Ask;
 
-// The mask that a text says of a device, where it has a data channel.
+// Returns the mask of a device that a text gives, if it has a data channel.
 fn read_mask(shape: &Shape, text: &[u8]) -> Option<Mask>
     ensures value { option_map (λ m. m.bits) result ≡ data_mask shape.now text.now }
     ensures below { IfSome result (λ m. m.bits < 2 ^ count_of shape.now) }
@@ -29,8 +29,8 @@ fn read_mask(shape: &Shape, text: &[u8]) -> Option<Mask>
     Some(mask)
 }
 
-/// What the words want of a description. `Device` where no `device` line of it has the name; else `Mask` where the text is
-/// no mask of that device with a data channel.
+/// Returns what the words want of a description. `Device` if none of its `device` lines has the name; otherwise `Mask` if the
+/// text isn't a mask of that device with a data channel.
 pub(crate) fn ask_of<'a>(desc: &'a Desc, words: &'a Words<'a>) -> Result<Ask<'a>, Why>
     requires samples { 1 ≤ words.now.samples }
     requires scans { 1 ≤ words.now.scans }

@@ -15,7 +15,7 @@ pub struct Words<'a> {
     pub scans: u32,
 }
 
-// The number of a text, which is at least 1.
+// Returns the number of a text, if it is at least 1.
 fn read_amount(text: &str) -> Option<u32>
     ensures value { result ≡ amount_of text.now }
     ensures some { IfSome result (λ n. 1 ≤ n) }
@@ -26,7 +26,7 @@ fn read_amount(text: &str) -> Option<u32>
     }
 }
 
-/// What the words say. None exactly for other words.
+/// Returns what the words say. `None` exactly if they are other words.
 pub(crate) fn read_words(words: &[String]) -> Option<Words<'_>>
     ensures found { IfSome result (λ said. IsReaddev words.now (words_of said)) }
     ensures some { IfSome result (λ said. (1 ≤ said.samples) × (1 ≤ said.scans)) }

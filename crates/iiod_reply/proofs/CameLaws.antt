@@ -1,4 +1,4 @@
--- A number's length; and bytes in the place of others.
+-- The length of a number; and bytes that are written over others.
 use Rattle.std.proofs.Common.{◌≡◌, ℕ, ◌+◌, ◌*◌, ◌/◌, ◌%◌, ◌^◌, ◌<◌, ◌≤◌, nat_le, List, [], ◌∷◌, ◌++◌, length, take, drop, append_assoc, length-append, refl, inl, inr, sym, ap, ◌∙◌, arith}
 use Rattle.std.specs.Fmt.{decimal}
 use Rattle.std.specs.Int.{byte_len, w32, w64, to_be_bytes}
@@ -32,7 +32,7 @@ no_longer came most less small =
       )
     ]
 
--- how many digits a number has, at most
+-- the most digits that a number has
 pub length_most : (n : ℕ) → n < 2 ^ 64 → length (decimal n) ≤ 20
 length_most n small = length-decimal-le 20 n (omega arith) (omega (arith, small)) small
 
@@ -56,7 +56,7 @@ length_head channels mask came =
 pub no_longer_head : (channels came most : ℕ) → came ≤ most → most < 2 ^ 64 → head_length channels came ≤ head_length channels most
 no_longer_head channels came most less small = omega (arith, no_longer came most less small)
 
--- what was put, and what stands after it
+-- what was written, and what comes after it
 put_whole : (at : ℕ) (old a mid : List ℕ) → at + length a ≤ length old → mid ≡ take at old ++ (a ++ drop (at + length a) old)
     → (take (at + length a) mid ≡ take at old ++ a) × ((n : ℕ) → drop (at + length a + n) mid ≡ drop (at + length a + n) old)
 put_whole at old a mid within put =
@@ -68,7 +68,7 @@ put_whole at old a mid within put =
       λ n. ap (λ k. drop (k + n) mid) (sym long) ∙ ap (drop (length front + n)) whole ∙ drop-append-add front rest n ∙ drop-drop n (at + length a) old,
     )
 
--- bytes that are put one after another
+-- bytes that are written one after another
 pub put_beside : (at : ℕ) (old a b mid new : List ℕ) → at + length a + length b ≤ length old
     → mid ≡ take at old ++ (a ++ drop (at + length a) old)
     → new ≡ take (at + length a) mid ++ (b ++ drop (at + length a + length b) mid)
@@ -79,7 +79,7 @@ put_beside at old a b mid new within first second =
     second ∙ rw (w.0, w.1 (length b)) (append_assoc (take at old) a (b ++ drop (at + length a + length b) old)
     ∙ ap (λ xs. take at old ++ xs) (sym (append_assoc a b (drop (at + length a + length b) old)) ∙ ap (λ k. (a ++ b) ++ drop k old) n))
 
--- ... and after which some are taken out
+-- ... and after which some are removed
 pub put_short : (at gone : ℕ) (old a mid new : List ℕ) → at + length a ≤ length old
     → mid ≡ take at old ++ (a ++ drop (at + length a) old)
     → new ≡ take (at + length a) mid ++ drop (at + length a + gone) mid

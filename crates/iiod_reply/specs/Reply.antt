@@ -1,5 +1,5 @@
--- What an item of a connection is answered, and the bytes of the answer. (libiio 0.25's iiod. That a value's number
--- leaves out its closing LF, and READBUF's block with its one mask and its closing 0, are this project's own.)
+-- What an item of a connection is answered, and the bytes of the answer. (libiio 0.25's iiod. That a value's number leaves out
+-- its closing LF, and READBUF's block with its one mask and its closing 0, are this project's own.)
 use Rattle.std.specs.Prelude.{◌≡◌, ◌+◌, ◌≤◌, ℕ, ℤ, pos, negsuc, neg_ℤ, nat_lt, if◌then◌else◌, codes, ⊤, List, [], ◌∷◌, ◌++◌, length, Result, Ok, Err, IsOk}
 use Rattle.std.specs.Fmt.{decimal, signed_decimal}
 use Rattle.std.specs.List.{flat_map}
@@ -15,41 +15,41 @@ pub data Reply : Type 0 where
   Number : (n : ℤ) → Reply
   -- minus the number of an error
   Refusal : (error : Errno) → Reply
-  -- a text that is a line of its own: of HELP and VERSION
+  -- a text that is a line of its own, the answer to HELP and VERSION
   Line : (text : List ℕ) → Reply
-  -- a value: of PRINT, READ and GETTRIG
+  -- a value, the answer to PRINT, READ and GETTRIG
   Value : (bytes : List ℕ) → Reply
-  -- bytes with no line after them: of EVREAD
+  -- bytes with no line after them, the answer to EVREAD
   Raw : (bytes : List ℕ) → Reply
-  -- READBUF's scans under the member's own mask, with the number of channels, and how many bytes were asked for
+  -- READBUF's scans under the member's own mask, with the number of channels, and the number of bytes that were asked for
   Block : (channels mask : ℕ) (scans : List (List ℕ)) (asked : ℕ) → Reply
-  -- out of memory, which a server alone answers
+  -- memory ran out, which only a server answers
   NoMemory : Reply
 
 -- a text and LF
 abbrev pub line : List ℕ → List ℕ
 line text = text ++ 10 ∷ []
 
--- a number in decimal, with its sign where it is negative, and LF
+-- a number in decimal, with its sign if it is negative, and LF
 abbrev pub number_text : ℤ → List ℕ
 number_text n = line (signed_decimal n)
 
--- how many bytes follow, in a line of its own
+-- the number of bytes that follow, in a line of its own
 abbrev pub length_text : List ℕ → List ℕ
 length_text bytes = number_text (pos (length bytes))
 
 abbrev pub value_text : List ℕ → List ℕ
 value_text bytes = length_text bytes ++ line bytes
 
--- a 0 where fewer bytes came than were asked for
+-- a 0 if fewer bytes came than were asked for
 abbrev pub closing_text : ℕ → ℕ → List ℕ
 closing_text came asked = if nat_lt came asked then line (codes "0") else []
 
--- what stands before the bytes of a block's scans: how many come, and the mask that they are under
+-- what comes before the bytes of a block's scans: their number, and the mask that they are under
 abbrev pub head_text : ℕ → ℕ → ℕ → List ℕ
 head_text channels mask came = number_text (pos came) ++ line (mask_text channels mask)
 
--- how many bytes that has
+-- the number of bytes of that head
 abbrev pub head_length : ℕ → ℕ → ℕ
 head_length channels came = length (decimal came) + 1 + digit_count channels + 1
 
@@ -71,16 +71,16 @@ text_of (Raw bytes) = length_text bytes ++ bytes
 text_of (Block channels mask scans asked) = block_text channels mask (joined_scans scans) asked
 text_of NoMemory = number_text (negsuc 11)
 
--- `text` stands at the end of what was there, or there was no memory and what was there stays
+-- `text` is appended to what was there; or memory ran out, and what was there stays
 abbrev pub Appends : List ℕ → List ℕ → Result ⊤ Mem → List ℕ → Type 0
 Appends text old (Ok done) new = new ≡ old ++ text
 Appends text old (Err mem) new = new ≡ old
 
--- `n` bytes were appended, whatever they are; or there was no memory, and what was there stays
+-- `n` bytes of any value are appended; or memory ran out, and what was there stays
 abbrev pub AppendsRoom : ℕ → List ℕ → Result ⊤ Mem → List ℕ → Type 0
 AppendsRoom n old (Ok done) new = (room : List ℕ) × (length room ≡ n) × (new ≡ old ++ room)
 AppendsRoom n old (Err mem) new = new ≡ old
 
--- where the room is there already, memory doesn't run out
+-- if the room is there already, memory doesn't run out
 abbrev pub FitsInRoom : List ℕ → List ℕ → ℕ → Result ⊤ Mem → Type 0
 FitsInRoom text old capacity result = length old + length text ≤ capacity → IsOk result

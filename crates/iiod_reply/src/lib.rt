@@ -1,9 +1,9 @@
 //! The answers of libiio 0.25's iiod to a connection, as bytes.
 //!
-//! A number is a line of its own. A value is the number of its bytes, the bytes, and LF. A block of READBUF is the number
-//! of its bytes, the mask that they are under, the bytes, and a closing 0 where fewer came than were asked for. A caller who
-//! takes the scans straight into the answer leaves room for the head before them, and puts the head there and closes the block
-//! once they stand.
+//! A number is a line of its own. A value is the number of its bytes, the bytes, and LF. A block of READBUF is the number of
+//! its bytes, the mask that they are under, the bytes, and a closing 0 if fewer came than were asked for. A caller that takes
+//! the scans directly into the answer first leaves room for the head, then takes the scans after it, and at last fills in the
+//! head and closes the block.
 #![tactic(auto)]
 
 ghost use Rattle.std.specs.Prelude.{◌≡◌, ◌+◌, ◌^◌, ◌≤◌, ◌<◌, ◌++◌, length, take, drop, vec_capacity, decimal, IsOk};
@@ -18,11 +18,11 @@ use itoa::Buffer;
 // The most bytes of a block's head: the number of its bytes, the mask, and an LF after each.
 const MOST_HEAD: usize = 20 + 1 + 16 + 1;
 
-// What stands in the place of a head until it is put there.
+// The bytes in the place of a head until it is filled in.
 const HEAD_ROOM: [u8; MOST_HEAD] = [b' '; MOST_HEAD];
 
-/// Appends a number as a plain answer: its decimal digits, with a `-` before them where it is negative, and LF. A refusal
-/// is minus its `Errno`'s number. After `Mem`, `out` is unchanged.
+/// Appends a number as a plain answer: its decimal digits, with a `-` before them if it is negative, and LF. A refusal is minus
+/// its `Errno`'s number. After `Mem`, `out` is unchanged.
 pub fn number(n: i64, out: &mut Vec<u8>) -> Result<(), Mem>
     ensures text { Appends (text_of (Number n)) out.old.items result out.new.items }
     ensures room { FitsInRoom (text_of (Number n)) out.old.items (vec_capacity out.old) result }
@@ -81,8 +81,8 @@ pub fn block(
     Ok(())
 }
 
-/// Appends room for the head of a block of at most `most` bytes of scans: as many bytes as that head has. What they are means
-/// nothing. After `Mem`, `out` is unchanged.
+/// Appends room for the head of a block of at most `most` bytes of scans: as many bytes as that head has, of any value. After
+/// `Mem`, `out` is unchanged.
 pub fn block_room(channels: u32, most: usize, out: &mut Vec<u8>) -> Result<(), Mem>
     ensures room { AppendsRoom (head_length channels most) out.old.items result out.new.items }
     ensures fits { length out.old.items + head_length channels most ≤ vec_capacity out.old → IsOk result }
@@ -92,9 +92,9 @@ pub fn block_room(channels: u32, most: usize, out: &mut Vec<u8>) -> Result<(), M
     Ok(())
 }
 
-/// Puts the head of a block in which `came` bytes of scans came into the room that begins at `start`, which is that of the head
-/// for `most` bytes: their number, LF, the mask's text for `channels` channels, LF. What stands after the room stays, and moves
-/// up where the head is shorter. It takes no memory.
+/// Writes the head of a block of `came` bytes of scans into the room that begins at `start` and was made for the head of `most`
+/// bytes: their number, LF, the mask's text for `channels` channels, LF. The bytes after the room stay, and move towards the
+/// start if the head is shorter. It takes no memory.
 pub fn block_head(
     mask: Mask,
     channels: u32,
@@ -118,8 +118,8 @@ pub fn block_head(
     }
 }
 
-/// Appends the closing of a block: `0`, LF exactly where fewer bytes of scans came than were asked for. After `Mem`, `out`
-/// is unchanged.
+/// Appends the closing of a block: `0`, LF exactly if fewer bytes of scans came than were asked for. After `Mem`, `out` is
+/// unchanged.
 pub fn block_closing(came: usize, asked: u32, out: &mut Vec<u8>) -> Result<(), Mem>
     ensures text { Appends (closing_text came asked) out.old.items result out.new.items }
     ensures room { FitsInRoom (closing_text came asked) out.old.items (vec_capacity out.old) result }
@@ -131,7 +131,7 @@ pub fn block_closing(came: usize, asked: u32, out: &mut Vec<u8>) -> Result<(), M
     Ok(())
 }
 
-// How many digits the text of a mask has.
+// Returns the number of digits of the text of a mask.
 fn digit_count(channels: u32) -> usize
     ensures value { result ≡ digit_count channels }
     ensures within { result ≤ 16 }
@@ -139,14 +139,14 @@ fn digit_count(channels: u32) -> usize
     if channels <= 32 { 8 } else { 16 }
 }
 
-// The line that ends a block, if any.
+// Returns the line that ends a block, if any.
 fn closing(came: usize, asked: u32) -> &'static [u8]
     ensures { result.now ≡ closing_text came asked }
 {
     if came < asked as usize { b"0\n" } else { b"" }
 }
 
-// How many digits a number has.
+// Returns the number of digits of a number.
 #[tactic(auto, using(crate::proofs::CameLaws::length_most))]
 fn decimal_length(n: usize) -> usize
     ensures value { result ≡ length (decimal n) }
@@ -155,7 +155,7 @@ fn decimal_length(n: usize) -> usize
     Buffer::new().format(n).len()
 }
 
-// How many bytes the head of a block has, where `came` bytes of scans come.
+// Returns the number of bytes of the head of a block with `came` bytes of scans.
 fn head_length(channels: u32, came: usize) -> usize
     ensures value { result ≡ head_length channels came }
     ensures within { result ≤ MOST_HEAD }
@@ -163,7 +163,7 @@ fn head_length(channels: u32, came: usize) -> usize
     decimal_length(came) + 1 + digit_count(channels) + 1
 }
 
-// Puts a line, with its LF, in the place of as many bytes from `at` on, and says how many.
+// Writes a line, with its LF, over as many bytes from `at` on, and returns their number.
 fn put_line(text: &[u8], at: usize, out: &mut Vec<u8>) -> usize
     requires { at + length (line text.now) ≤ length out.old.items }
     ensures length { result ≡ length (line text.now) }
@@ -175,7 +175,7 @@ fn put_line(text: &[u8], at: usize, out: &mut Vec<u8>) -> usize
     text.len() + 1
 }
 
-// Puts the head of a block in the place of as many bytes from `at` on, and says how many.
+// Writes the head of a block over as many bytes from `at` on, and returns their number.
 fn put_head(mask: Mask, channels: u32, came: usize, at: usize, out: &mut Vec<u8>) -> usize
     requires some { 1 ≤ channels }
     requires few { channels ≤ 64 }
@@ -193,7 +193,7 @@ fn put_head(mask: Mask, channels: u32, came: usize, at: usize, out: &mut Vec<u8>
     length + put_line(digits, at + length, out)
 }
 
-// Puts bytes in the place of as many from `at` on.
+// Writes bytes over as many from `at` on.
 fn overwrite(out: &mut Vec<u8>, at: usize, bytes: &[u8])
     requires { at + length bytes.now ≤ length out.old.items }
     ensures items { out.new.items ≡ take at out.old.items ++ (bytes.now ++ drop (at + length bytes.now) out.old.items) }
@@ -202,7 +202,7 @@ fn overwrite(out: &mut Vec<u8>, at: usize, bytes: &[u8])
     out[at..at + bytes.len()].copy_from_slice(bytes);
 }
 
-// Takes `count` bytes out from `at` on.
+// Removes `count` bytes from `at` on.
 fn remove(out: &mut Vec<u8>, at: usize, count: usize)
     requires { at + count ≤ length out.old.items }
     ensures items { out.new.items ≡ take at out.old.items ++ drop (at + count) out.old.items }

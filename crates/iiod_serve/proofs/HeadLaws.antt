@@ -1,4 +1,4 @@
--- What is read of an input whose description alone is wanted, by what its head was read as.
+-- What is read of an input of which only the description is wanted, by what its head was read as.
 use Rattle.std.proofs.Common.{◌≡◌, ℕ, List, [], ◌++◌, Option, Some, None, IfSome, IfOk, Result, Ok, Err, refl, sym, ap, ◌∙◌, subst, append-nil, arith}
 use Rattle.iio_text.specs.declared.refusals.Why.{Why}
 use Rattle.iio_desc.specs.Description.{Description}
@@ -55,7 +55,7 @@ status_by outcome status.ReadFault text f = tt
 status_by outcome status.WriteFault text f = tt
 status_by outcome status.Memory text f = tt
 
--- what is printed where the head was read so
+-- what is printed if the head was read as this
 abbrev pub PrintsHead : Opening → Status → (before after : Option (List ℕ)) → Type 0
 PrintsHead opening st before after =
     (next : ℕ) (more : List (List ℕ)) → (text : List ℕ) × WritesText before after text × Prints (read_head (told next more opening)) st text
@@ -101,7 +101,7 @@ head_near drivers opening st h (Some input) left' before after prints opens = le
     by status.WriteFault text prints = tt
     by status.Memory text prints = tt
 
--- the description that was read is the head's
+-- the description that was read is that of the head
 pub head_says : (drivers : ℕ) (opening : Opening) (result : Result Description Status) (h : Hand) (left left' : Option (List ℕ))
     → IfOk result (λ desc. (next : ℕ) (more : List (List ℕ)) → Says desc (told next more opening))
     → IfSome left (λ input. Opens drivers opening input h left') → IfOk result (λ desc. IfSome left (λ input. Says desc (head_of drivers input)))
@@ -115,13 +115,13 @@ pub whatever : {A E : Type 0} (P : Type 0) (result : Result A E) → P → IfOk 
 whatever P (Ok x) holds = holds
 whatever P (Err e) holds = tt
 
--- ---- where nothing was printed
+-- ---- if nothing was printed
 
 nothing : (before : Option (List ℕ)) → WritesText before before []
 nothing None = tt
 nothing (Some xs) = ap Some (sym (append-nil xs))
 
--- where memory ran out, whatever the outcome
+-- if memory ran out, whatever the outcome
 pub prints_none : (outcome : Outcome) (before : Option (List ℕ)) → (text : List ℕ) × WritesText before before text × Prints outcome status.Memory text
 prints_none outcome before = ([], nothing before, record { rest = outcome.printed; parts = refl })
 
@@ -130,7 +130,7 @@ pub writes_none : (outcome : List ℕ → Outcome) (left before : Option (List �
 writes_none outcome None before = tt
 writes_none outcome (Some input) before = printed_writes (outcome input) status.Memory before before (prints_none (outcome input) before)
 
--- where a read failed
+-- if a read failed
 pub writes_failed : (outcome : List ℕ → Outcome) (left before : Option (List ℕ))
     → IfSome left (λ input. IfSome before (λ xs. Writes (outcome input) xs status.ReadFault before))
 writes_failed outcome None before = tt
@@ -147,7 +147,7 @@ taken_none (Some input) = record { count = 0; within = omega arith; near = λ m 
 pub no_read_fault : (outcome : Outcome) (st : Status) (text : List ℕ) → Prints outcome st text → st ≡ status.ReadFault → ⊥
 no_read_fault outcome st text f is = subst (λ (x : Status). Prints outcome x text) is f
 
--- a refusal and a cut are no end of a run that was done
+-- a run that is done has neither a refusal nor a cut as its end
 refused_stops : (line : ℕ) (why : Why) (st : Status) (text : List ℕ) → Prints (only_ending (script.Refused line why)) st text → IsStop st
 refused_stops line why status.Done text f = absurd (let is = f.ends in cc)
 refused_stops line why status.Usage text f = f

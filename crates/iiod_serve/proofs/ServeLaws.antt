@@ -1,4 +1,4 @@
--- How `serve` ends, by how its parts did.
+-- How `serve` ends, by how its parts ended.
 use Rattle.std.proofs.Common.{◌≡◌, ◌≤◌, ℕ, List, take, drop, Option, Some, None, IfSome, IfNone, ◌⊎◌, inl, inr, refl, sym, ap, ◌∙◌, subst, arith}
 use Rattle.std.proofs.lemmas.List.{take-append-drop}
 use Rattle.iio_base.specs.Faults.{Rose}
@@ -19,7 +19,7 @@ use Rattle.iiod_serve.specs.Reading.{IsStop, Says, read_head, served_of}
 use Rattle.iiod_serve.specs.Served.{EndsServed, IsServed, ServesLines, ShowsDoor, as_run, end_of, no_address_line, of_run}
 use Rattle.iiod_serve.specs.Usage.{IsUsage}
 
--- ---- a server that ended as a run did
+-- ---- a server that ended like a run
 
 pub as_of : (st : Status) → as_run (of_run st) ≡ st
 as_of run.Done = refl
@@ -40,11 +40,11 @@ stop_lines outcome before run.WriteFault after stop writes = inl writes
 stop_lines outcome before run.Memory after stop writes = writes
 stop_lines outcome before run.TooLong after stop writes = writes
 
--- what it is as a run's
+-- the server's status as the run's
 as_is : (st : Status) (r : ServeStatus) → r ≡ of_run st → as_run r ≡ st
 as_is st r e = ap as_run e ∙ as_of st
 
--- what is so by the run's status is so by the server's
+-- what holds of the run's status holds of the server's
 pub as_ended : (P : Status → Type 0) (st : Status) (r : ServeStatus) → r ≡ of_run st → P st → P (as_run r)
 as_ended P st r e holds = subst P (sym (as_is st r e)) holds
 
@@ -63,7 +63,7 @@ stops_failed st r e is = sym (as_is st r e) ∙ ap as_run is
 pub stops_words : (st : Status) (r : ServeStatus) → r ≡ of_run st → IsStop st → r ≡ Usage → ⊥
 stops_words st r e stop is = subst IsStop (sym (as_is st r e) ∙ ap as_run is) stop
 
--- nothing was asked of its door
+-- nothing was asked of the door
 unasked : {D : Type 0} (left : D → Option ℕ) (faults : D → ℕ) (st : Status) (door : D) → IsStop st ⊎ IsUsage st → ShowsDoor left faults (of_run st) door door
 unasked left faults run.Done door (inl stop) = absurd stop
 unasked left faults run.Done door (inr (inl is)) = absurd (cc)
@@ -79,7 +79,7 @@ pub stops_door : {D : Type 0} (left : D → Option ℕ) (faults : D → ℕ) (st
     → ShowsDoor left faults r door door
 stops_door left faults st r door e stop = subst (λ (x : ServeStatus). ShowsDoor left faults x door door) (sym e) (unasked left faults st door stop)
 
--- words that are no command leave the source alone
+-- words that aren't a command leave the source alone
 pub usage_faults : {S K : Type 0} (left : S → Option (List ℕ)) (reads : S → ℕ) (written : K → Option (List ℕ)) (writes : K → ℕ) (st : Status) (r : ServeStatus)
     (source : S) (sink sink' : K) → r ≡ of_run st → IsUsage st
     → (st ≡ run.WriteFault → Rose (writes sink) (writes sink')) → writes sink ≤ writes sink' → IfNone (written sink) (written sink' ≡ None)
@@ -179,7 +179,7 @@ as_memory ReadFault is = absurd (cc)
 as_memory TooLong is = absurd (cc)
 as_memory (Refused line why) is = absurd (cc)
 
--- ---- where the door couldn't be opened
+-- ---- if the door couldn't be opened
 
 -- a front part of the line that says so was written
 unopened_part : (before : List ℕ) (after : Option (List ℕ)) → WritesPart before no_address_line after
@@ -201,7 +201,7 @@ pub unopened_told : (before after : Option (List ℕ)) → IfSome before (λ xs.
 unopened_told None after part = tt
 unopened_told (Some xs) after part = unopened_part xs after part
 
--- ---- where no count rose
+-- ---- if no count rose
 
 done_end : (e : Ending) → run.Done ≡ status_of e → DoorEnd ≡ end_of e
 done_end Finished is = refl

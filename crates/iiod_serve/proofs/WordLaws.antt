@@ -1,4 +1,4 @@
--- Lists of one word, of two, and of three, and texts of numbers.
+-- Lists of one, two and three words, and texts of numbers.
 use Rattle.std.proofs.Common.{◌≡◌, ◌↔◌, ◌<◌, ◌≤◌, ◌^◌, ◌∙◌, ℕ, Bool, true, false, not, IsTrue, Result, Ok, Err, refl, List, [], ◌∷◌, length, get_or, slice_index_or, arith, ap, sym, subst}
 use Rattle.std.proofs.lemmas.Bool.{false≢true}
 use Rattle.std.proofs.lemmas.Slice.Eq.{bytes_eq-Decides}
@@ -19,7 +19,7 @@ same_as bs text r e h = e ∙ (bytes_eq-Decides bs text).1 (ap (λ (l : List (Li
 same_text : (bs text : List ℕ) (r : Bool) → r ≡ bytes_eq bs text → IsTrue r → bs ≡ text
 same_text bs text r e h = (bytes_eq-Decides bs text).0 (sym e ∙ h)
 
--- whether the one word is the text
+-- whether the only word is the text
 pub says : {A : Type 0} (words : List (String A)) (w : String A) (text : List ℕ) (r : Bool) → 1 ≤ length words → length words < 2
     → w ≡ slice_index_or words 0 w → r ≡ bytes_eq (string_bytes w) text → IsTrue r ↔ (map string_bytes words ≡ text ∷ [])
 says words w text r some one e h =
@@ -30,7 +30,7 @@ not_false : (b : Bool) → not b ≡ false → b ≡ true
 not_false true h = refl
 not_false false h = absurd (false≢true (sym h))
 
--- a first word that isn't other than the text
+-- a first word that doesn't differ from the text
 pub first_is : (bs text : List ℕ) (r : Bool) → r ≡ not (bytes_eq bs text) → r ≡ false → bs ≡ text
 first_is bs text r test said = (bytes_eq-Decides bs text).0 (not_false (bytes_eq bs text) (sym test ∙ said))
 
@@ -50,7 +50,7 @@ three_words (x ∷ y ∷ []) u v w some few a b c = absurd (omega arith)
 three_words (x ∷ y ∷ z ∷ []) u v w some few a b c = rw (a, b, c) refl
 three_words (x ∷ y ∷ z ∷ t ∷ ts) u v w some few a b c = absurd (omega arith)
 
--- the three words, where the first is the text
+-- the three words, if the first of them is the text
 pub says_three : {A : Type 0} (words : List (String A)) (u v w : String A) (text device mask : List ℕ) (r : Bool) → 3 ≤ length words → length words < 4
     → u ≡ slice_index_or words 0 u → v ≡ slice_index_or words 1 v → w ≡ slice_index_or words 2 w
     → r ≡ not (bytes_eq (string_bytes u) text) → r ≡ false → device ≡ string_bytes v → mask ≡ string_bytes w
@@ -61,7 +61,8 @@ says_three words u v w text device mask r some few a b c test said second third 
 
 -- ---- the words `serve ADDRESS PERIOD`
 
--- of three words, the first of which isn't other than `serve`, the second and the number that the third spells are theirs
+-- if the first of three words doesn't differ from `serve`, the second,
+-- and the number that the third spells, are those of the words
 pub says_serve : {A : Type 0} (words : List (String A)) (u v w : String A) (address number : List ℕ) (period : ℕ) (r : Bool) → 3 ≤ length words
     → length words < 4
     → u ≡ slice_index_or words 0 u → v ≡ slice_index_or words 1 v → w ≡ slice_index_or words 2 w
@@ -72,13 +73,13 @@ says_serve words u v w address number period r some few a b c test said second t
 
 -- ---- texts of numbers
 
--- a text of a number that is no period is the text of none
+-- a text of a number that isn't a period is no period's text
 pub no_period : (text : List ℕ) (n m : ℕ) → (n < 2 ^ 64) × (text ≡ decimal n) → (1 ≤ n → n ≤ 60000 → ⊥) → 1 ≤ m → m ≤ 60000 → text ≡ decimal m → ⊥
 no_period text n m (fits, is) out one most other =
     let same : m ≡ n = decimal_injective m n (omega (arith, most)) fits (sym other ∙ is) in
     out (subst (λ (k : ℕ). 1 ≤ k) same one) (subst (λ (k : ℕ). k ≤ 60000) same most)
 
--- a text that was found other isn't the same
+-- a text that was found to differ isn't the same
 pub not_other : (bs text : List ℕ) (r : Bool) → r ≡ not (bytes_eq bs text) → r ≡ true → bs ≡ text → ⊥
 not_other bs text r test said same = not_true (bytes_eq bs text) (sym test ∙ said) ((bytes_eq-Decides bs text).1 same)
   where

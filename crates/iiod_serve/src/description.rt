@@ -1,4 +1,4 @@
-//! The description at the head of an input, for the commands that read nothing else.
+//! Reads the description at the head of an input, for the commands that read nothing else.
 
 ghost use Rattle.std.specs.Prelude.{◌≡◌, ◌≤◌, ℕ, List, None, Err, IfErr, IfOk, IfSome, IfNone};
 ghost use Rattle.iio_base.specs.Faults.{Rose};
@@ -15,7 +15,7 @@ use iio_io::{ReadEnd, Sink, Source};
 use iio_script::{LineReader, Opening, Status, end_cut, end_refused, open};
 use std::alloc::Global;
 
-// The description, or the end in its place, which is printed.
+// Returns the description, or prints the end that the opening has instead and returns its status.
 fn described<K: Sink>(alloc: Global, opening: Opening, output: &mut K) -> Result<Desc, Status>
     ensures prints { (next : ℕ) (more : List (List ℕ)) → (text : List ℕ) × WritesText (K.written output.old) (K.written output.new) text
         × Prints (read_head (told next more opening)) (ended result) text }
@@ -36,9 +36,9 @@ fn described<K: Sink>(alloc: Global, opening: Opening, output: &mut K) -> Result
     }
 }
 
-/// Reads the description at the head of the input that a source has left, which may use `drivers` drivers. Where it is refused
-/// or too long, that is written to a sink, and it is the status; for a description that is read nothing is written. What stands
-/// after the line that ends it isn't looked at, and at most a piece was taken after the byte at which a line failed. Where a
+/// Reads the description at the head of the input that a source has left, which may use `drivers` drivers. If it is refused
+/// or too long, this is written to a sink and is the status; for a description that is read nothing is written. What comes
+/// after the line that ends it isn't looked at, and at most a piece was taken after the byte at which a line failed. If a
 /// read fails, nothing is written.
 pub fn read_description<S: Source, K: Sink>(
     alloc: Global,

@@ -1,5 +1,5 @@
-//! `serve`: a description is read, a door is opened, and its devices are served; and what the program's commands share: the
-//! line that names them, numbers among their words, and the reading of a description.
+//! `serve`: reads a description, opens a door, and serves its devices; and what the program's commands share: the line that
+//! names them, numbers among their words, and the reading of a description.
 #![tactic(auto)]
 
 mod description;

@@ -1,4 +1,4 @@
-//! A description that is served at a door.
+//! Serves a description at a door.
 
 ghost use Rattle.std.specs.Prelude.{◌≡◌, ◌⊎◌, ◌≤◌, ◌<◌, length, None, IfOk, IfSome, IfNone};
 ghost use Rattle.iio_base.specs.Faults.{Rose};
@@ -18,7 +18,7 @@ use std::thread::Threads;
 
 const NO_ADDRESS: &[u8] = b"no address\n";
 
-// The tickers of `count` triggers, each of which is polled each `period` milliseconds.
+// Makes the tickers of `count` triggers, each of which is polled every `period` milliseconds.
 fn tickers_of<D: Listen>(
     alloc: Global,
     door: &D,
@@ -34,7 +34,7 @@ fn tickers_of<D: Listen>(
     Ok(tickers)
 }
 
-// The end where the door couldn't be opened.
+// The end if the door couldn't be opened.
 fn end_unopened<K: Sink>(output: &mut K) -> ServeStatus
     ensures lines { IfSome (K.written output.old) (λ written. ServesLines (only_ending Finished) written result (K.written output.new)) }
     ensures status { (result ≡ ServeStatus.NoAddress) ⊎ (result ≡ ServeStatus.WriteFault) }
@@ -48,7 +48,7 @@ fn end_unopened<K: Sink>(output: &mut K) -> ServeStatus
     }
 }
 
-// The server at a door that was opened.
+// Runs the server at a door that was opened.
 fn serve_opened<R: Threads + Wait + Sync, D: Listen, G: Gate + Sync>(
     rt: &R,
     alloc: Global,
@@ -75,8 +75,8 @@ fn serve_opened<R: Threads + Wait + Sync, D: Listen, G: Gate + Sync>(
     }
 }
 
-/// Opens a door at an address, and serves a description to the connections that it gives, each trigger polled each `period`
-/// milliseconds. Where the door can't be opened, `no address` is printed; else nothing is.
+/// Opens a door at an address, and serves a description to the connections that it gives. Each trigger is polled every
+/// `period` milliseconds. If the door can't be opened, `no address` is printed; otherwise nothing is.
 pub(crate) fn serve_description<R: Threads + Wait + Sync, K: Sink, D: Listen, G: Gate + Sync>(
     rt: &R,
     alloc: Global,

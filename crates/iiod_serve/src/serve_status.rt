@@ -11,7 +11,7 @@ use iio_text::Why;
 pub enum ServeStatus {
     /// The door gave no further connection, and those that it gave were served to their ends.
     DoorEnd,
-    /// The line of that number, counted from 1, is the first of the description that fails.
+    /// The line with this number, counted from 1, is the first of the description that fails.
     Refused { line: u32, why: Why },
     /// The program's words aren't those of `serve`.
     Usage,
@@ -21,7 +21,7 @@ pub enum ServeStatus {
     WriteFault,
     /// Memory, or threads, ran out before a connection was asked for.
     Memory,
-    /// The description has more bytes than are looked at, and no line of it that is looked at fails.
+    /// The description has more bytes than are looked at, and no looked-at line of it fails.
     TooLong,
     /// The door couldn't be opened at the address.
     NoAddress,
@@ -30,7 +30,7 @@ pub enum ServeStatus {
 }
 
 impl ServeStatus {
-    /// The number that a process ends with.
+    /// Returns the exit code of the process.
     pub fn code(&self) -> u8
         ensures { result ≡ serve_code self.now }
     {
@@ -47,7 +47,7 @@ impl ServeStatus {
         }
     }
 
-    // The status of a server that ended as a run did, before its door was opened.
+    // Returns the status of a server that ended like a run, before its door was opened.
     pub(crate) fn of_run(status: Status) -> ServeStatus
         ensures { result ≡ of_run status }
     {

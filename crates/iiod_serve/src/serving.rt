@@ -20,7 +20,7 @@ use std::alloc::Global;
 use std::sync::Wait;
 use std::thread::Threads;
 
-// Serves the description of an input, with these drivers, of which there are `count`.
+// Serves the description of an input. `count` is the number of drivers.
 fn serve_input<R: Threads + Wait + Sync, S: Source, K: Sink, D: Listen, G: Gate + Sync>(
     rt: &R,
     alloc: Global,
@@ -54,10 +54,10 @@ fn serve_input<R: Threads + Wait + Sync, S: Source, K: Sink, D: Listen, G: Gate 
 
 /// Does what the words `serve ADDRESS PERIOD` say: reads the description of the input that the source has left, which may use
 /// the handed-in drivers by their numbers, opens the door at the address, and serves the devices to the connections that it
-/// gives, until it gives no more or fails. Each trigger is polled each PERIOD milliseconds, from 1 to 60,000, by a ticker of
-/// the door. A description that is refused, or that is longer than is looked at, is reported as by `layout`, and the door isn't
-/// touched. Where the door can't be opened, `no address` is printed. Else nothing is printed. Other words print the line that
-/// names the commands, and leave the input and the door alone. A return isn't promised.
+/// gives, until it gives no more or fails. Each trigger is polled every PERIOD milliseconds, from 1 to 60,000, by a ticker of
+/// the door. If the description is refused, or is longer than is looked at, this is reported as by `layout`, and the door
+/// isn't touched. If the door can't be opened, `no address` is printed. Otherwise nothing is printed. Other words print the
+/// line that names the commands, and leave the input and the door alone. The call may never return.
 pub fn serve<R: Threads + Wait + Sync, S: Source, K: Sink, D: Listen, G: Gate + Sync>(
     rt: &R,
     alloc: Global,
@@ -73,13 +73,13 @@ pub fn serve<R: Threads + Wait + Sync, S: Source, K: Sink, D: Listen, G: Gate + 
         ServesLines (served_of (length drivers.items) left) written result (K.written output.new))) }
     ensures status { (address : List ℕ) (period : ℕ) → IsServe words.now address period → IfSome (S.left input.old) (λ left.
         HasStatus (served_of (length drivers.items) left) (as_run result)) }
-    // Where no count of faults rose, the description decides, unless memory ran out.
+    // If no count of faults rose, the description decides, unless memory ran out.
     ensures complete { (address : List ℕ) (period : ℕ) → IsServe words.now address period → S.faults input.old ≡ S.faults input.new
         → K.faults output.old ≡ K.faults output.new
         → D.faults door.old ≡ D.faults door.new → IfSome (S.left input.old) (λ left. EndsServed (served_of (length drivers.items) left) result) }
     ensures taken { (address : List ℕ) (period : ℕ) → IsServe words.now address period
         → IfSome (S.left input.old) (λ left. TakesBlocks left (S.left input.new)) }
-    // Where a line of the description is refused, at most 65,536 bytes were taken after the byte at which it failed.
+    // If a line of the description is refused, at most 65,536 bytes were taken after the byte at which it failed.
     ensures near { (address : List ℕ) (period : ℕ) → IsServe words.now address period
         → IfSome (S.left input.old) (λ left. TakesFor (as_run result) left (S.left input.new)) }
     ensures nothing { (address : List ℕ) (period : ℕ) → IsServe words.now address period → result ≡ ServeStatus.ReadFault → output.new ≡ output.old }

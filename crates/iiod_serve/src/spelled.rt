@@ -5,7 +5,7 @@ ghost use Rattle.std.specs.Fmt.{decimal};
 
 use itoa::Buffer;
 
-/// The number that a text is the one decimal spelling of. None exactly for other texts.
+/// Returns the number of which a text is the one decimal spelling. `None` exactly for other texts.
 pub fn read_spelled(text: &str) -> Option<u64>
     ensures found { IfSome result (λ n. (n < 2 ^ 64) × (text.now ≡ decimal n)) }
     ensures none { IsNone result → (n : ℕ) → n < 2 ^ 64 → text.now ≡ decimal n → ⊥ }

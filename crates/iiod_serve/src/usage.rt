@@ -9,7 +9,7 @@ use iio_script::Status;
 
 const USAGE: &[u8] = b"usage: play | solo NAME | layout DEVICE MASK | gen N\n";
 
-/// Prints the line that names the commands: the answer to words that are no command.
+/// Prints the line that names the commands, for words that aren't a command.
 pub fn print_usage<K: Sink>(output: &mut K) -> Status
     ensures status { IsUsage result }
     ensures line { IfSome (K.written output.old) (λ written. PrintsUsage written result (K.written output.new)) }

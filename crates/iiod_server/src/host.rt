@@ -1,4 +1,4 @@
-//! What the workers of a server work at.
+//! The host that the workers of a server work at.
 
 ghost use Rattle.std.specs.Prelude.{◌<◌};
 ghost use Rattle.iio_desc.specs.declared.limits.TheConstants.{MAX_TRIGGERS};
@@ -8,10 +8,10 @@ use iiod_hub::{Hub, serve_connection};
 use std::alloc::Global;
 use std::sync::Wait;
 
-/// What ticks, sweeps and serves connections. Workers are written over it, so that it is shown in one place alone that a hub
-/// may be shared by threads.
+/// What ticks, sweeps and serves connections. Workers are generic over it, so that only one place shows that threads may share
+/// a hub.
 pub(crate) trait Host {
-    /// Takes one moment of a ticker for a trigger. It says whether there was one.
+    /// Takes one moment of a ticker for a trigger. Returns whether there was one.
     fn tick<R: Wait, T: Ticker>(&self, rt: &R, alloc: Global, trigger: u32, ticker: &mut T) -> bool
         requires { trigger < MAX_TRIGGERS };
 

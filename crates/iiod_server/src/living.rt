@@ -1,4 +1,4 @@
-//! The connections that are living, by their numbers.
+//! The living connections, by their numbers.
 
 ghost use Rattle.std.specs.Prelude.{◌≡◌, ◌-◌, ◌≤◌, None, IfSome, is_some, true};
 ghost use Rattle.slab.specs.Slab.{get};
@@ -8,18 +8,18 @@ use slab::Slab;
 use std::alloc::Global;
 use std::sync::{Condvar, Mutex, Wait};
 
-/// The most connections that live at once. (This project's own limit.)
+/// The most connections that may live at once. (This project's own limit.)
 pub const MAX_CONNECTIONS: usize = 32;
 
-/// The numbers of the living connections, less one.
+/// The numbers of the living connections, each minus 1.
 #[derive(Drop)]
 struct Numbers {
     taken: Slab<()>,
 }
 
 impl Numbers {
-    /// A number that no living connection has: the one that was given back last, else the next above all taken ones.
-    /// None comes where `MAX_CONNECTIONS` live.
+    /// Returns a number that no living connection has: the one that was given back last, otherwise the next above all taken
+    /// ones. Returns `None` if `MAX_CONNECTIONS` live.
     fn take(&mut self) -> Option<u32>
         ensures free { IfSome result (λ n. (1 ≤ n) × (get self.old.taken (n - 1) ≡ None) × (is_some (get self.new.taken (n - 1)) ≡ true)) }
     {
@@ -33,7 +33,7 @@ impl Numbers {
         }
     }
 
-    /// The number is free again.
+    /// Makes the number free again.
     fn give_back(&mut self, number: u32)
         requires { 1 ≤ number }
         ensures { get self.new.taken (number - 1) ≡ None }
@@ -42,7 +42,7 @@ impl Numbers {
     }
 }
 
-/// The living connections, and those who wait for the last of them to end.
+/// The living connections, and the threads that wait for the last of them to end.
 #[derive(Drop)]
 pub(crate) struct Living {
     numbers: Mutex<Numbers>,
@@ -50,7 +50,7 @@ pub(crate) struct Living {
 }
 
 impl Living {
-    /// Nobody lives yet. Room for all numbers is taken here.
+    /// Creates the state in which no connection lives. The room for all numbers is taken here.
     pub(crate) fn new(alloc: Global) -> Result<Living, Mem> {
         let taken = Slab::with_capacity(alloc, MAX_CONNECTIONS)?;
         Ok(Living {
@@ -59,14 +59,14 @@ impl Living {
         })
     }
 
-    /// A number for one connection more, which no other living one has. None comes where `MAX_CONNECTIONS` live.
+    /// Returns a number for a new connection, which no other living one has. Returns `None` if `MAX_CONNECTIONS` live.
     pub(crate) fn enter<R: Wait>(&self, rt: &R) -> Option<u32>
         ensures { IfSome result (λ n. 1 ≤ n) }
     {
         self.numbers.lock(rt).take()
     }
 
-    /// A connection has ended.
+    /// Records that a connection has ended.
     pub(crate) fn leave<R: Wait>(&self, rt: &R, number: u32)
         requires { 1 ≤ number }
     {

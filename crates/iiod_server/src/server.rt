@@ -14,7 +14,7 @@ use std::sync::Wait;
 use std::thread;
 use std::thread::{Scope, Threads};
 
-/// Why a server ended.
+/// The reason why a server ended.
 #[derive(Clone, Copy, Debug, PartialEq, Eq)]
 pub enum ServeEnd {
     /// The door gave no further connection.
@@ -25,7 +25,7 @@ pub enum ServeEnd {
     Memory,
 }
 
-// Starts the two workers of each trigger. False where one can't be started.
+// Starts the two workers of each trigger. Returns false if one can't be started.
 fn begin_workers<'s, E, R: Wait + Sync + 's, H: Host + Sync + 's, T: Ticker + Send + Drop + 's>(
     scope: &'s Scope<'s, E>,
     work: &'s Workplace<'s, R, H>,
@@ -56,8 +56,8 @@ fn begin_workers<'s, E, R: Wait + Sync + 's, H: Host + Sync + 's, T: Ticker + Se
     true
 }
 
-// Serves a connection on a thread of its own; where none can be started, on this one. One connection more than may live at
-// once is closed unheard.
+// Serves a connection on a thread of its own, or on this one if none can be started. If `MAX_CONNECTIONS` live already, the
+// connection is closed without being heard.
 fn begin_connection<
     's,
     E,
@@ -100,12 +100,12 @@ fn take_connections<
     unreachable!()
 }
 
-// Does nothing, but its use of a returned reference ties it, for the borrow checker, to the parameter that lent it.
+// Does nothing. Using a returned reference here ties it, for the borrow checker, to the parameter that lent it.
 fn take_back<T>(x: &mut T)
     ensures { x.new ≡ x.old }
 {}
 
-// Serves a host, as `serve_all` a hub.
+// Serves a host, like [`serve_all`] a hub.
 fn serve_host<
     R: Threads + Wait + Sync,
     H: Host + Sync,
@@ -147,11 +147,11 @@ fn serve_host<
     end
 }
 
-/// Serves a hub to the connections that a door gives, until it gives no more or fails; the living ones are then served to
-/// their ends. Ticker i is trigger i's: it is polled at each of its moments, by a worker of its own, and a second worker
-/// handles its entries after each. Each connection has a worker of its own; one whose worker can't be started is served by
-/// the caller, and one more than `MAX_CONNECTIONS` at once is closed unheard. Every worker has ended when this returns, which
-/// isn't promised.
+/// Serves a hub to the connections that a door gives, until it gives no more or fails; the living ones are then served to their
+/// ends. Ticker i belongs to trigger i, which is polled at each of the ticker's moments by a worker of its own; a second worker
+/// handles the trigger's entries after each poll. Each connection has a worker of its own; a connection whose worker can't be
+/// started is served by the caller, and one beyond `MAX_CONNECTIONS` at once is closed without being heard. Every worker has
+/// ended when this returns, which no clause promises.
 pub fn serve_all<R: Threads + Wait + Sync, D: Door, T: Ticker + Send + Drop, G: Gate + Sync>(
     rt: &R,
     alloc: Global,

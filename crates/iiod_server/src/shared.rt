@@ -8,7 +8,7 @@ use iiod_hub::{Bell, bells_of};
 use std::alloc::Global;
 use std::sync::atomic::{AtomicBool, Ordering};
 
-/// A bell of each trigger, which its ticks ring; the living connections; and whether the server ends.
+/// A bell for each trigger, which its ticks ring; the living connections; and whether the server is ending.
 #[derive(Drop)]
 pub(crate) struct Shared {
     pub(crate) ticked: Vec<Bell>,
@@ -17,7 +17,7 @@ pub(crate) struct Shared {
 }
 
 impl Shared {
-    /// For `triggers` triggers: no tick and no connection yet.
+    /// Creates the state for `triggers` triggers, before any tick or connection.
     pub(crate) fn new(alloc: Global, triggers: usize) -> Result<Shared, Mem>
         ensures { IfOk result (λ s. length s.ticked.items ≡ triggers) }
     {
@@ -28,12 +28,12 @@ impl Shared {
         })
     }
 
-    /// Whether the server ends.
+    /// Whether the server is ending.
     pub(crate) fn is_ending(&self) -> bool {
         self.ending.load(Ordering::SeqCst)
     }
 
-    /// Tells the workers of the triggers that the server ends.
+    /// Tells the workers of the triggers that the server is ending.
     pub(crate) fn end(&self) {
         self.ending.store(true, Ordering::SeqCst);
         for bell in &self.ticked {

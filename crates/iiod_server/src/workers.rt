@@ -1,4 +1,4 @@
-//! What each worker does.
+//! The work of each worker.
 
 ghost use Rattle.std.specs.Prelude.{◌≡◌, ◌≤◌, ◌<◌, length};
 ghost use Rattle.iio_desc.specs.declared.limits.TheConstants.{MAX_TRIGGERS};
@@ -9,7 +9,7 @@ use iio_io::{Gate, Link, Ticker};
 use std::alloc::Global;
 use std::sync::Wait;
 
-/// What every worker has: the host, what the workers share, and the token for waiting.
+/// What every worker has: the host, the state that the workers share, and the token for waiting.
 #[derive(Drop)]
 pub(crate) struct Workplace<'a, R, H> {
     pub(crate) rt: &'a R,
@@ -19,8 +19,8 @@ pub(crate) struct Workplace<'a, R, H> {
 }
 
 impl<'a, R: Wait, H: Host> Workplace<'a, R, H> {
-    /// Polls a trigger at each moment of its ticker, and rings the bell of the worker that handles its entries. Ends where the
-    /// ticker does, or at the first moment after the server's end.
+    /// Polls a trigger at each moment of its ticker, and rings the bell of the worker that handles its entries. Returns when
+    /// the ticker ends, or after the first moment after the server's end.
     pub(crate) fn tick_to_end<T: Ticker + Drop>(&self, trigger: u32, mut ticker: T)
         requires trigger { trigger < MAX_TRIGGERS }
         requires bell { trigger < length self.now.shared.now.ticked.items }
@@ -36,7 +36,8 @@ impl<'a, R: Wait, H: Host> Workplace<'a, R, H> {
         }
     }
 
-    /// Handles a trigger's entries after each tick, until the server ends. A tick in the middle of a sweep is seen by the next.
+    /// Handles a trigger's entries after each tick, until the server ends. A tick in the middle of a sweep is seen by the next
+    /// one.
     pub(crate) fn sweep_to_end(&self, trigger: u32)
         requires trigger { trigger < MAX_TRIGGERS }
         requires bell { trigger < length self.now.shared.now.ticked.items }

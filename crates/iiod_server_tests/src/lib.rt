@@ -1,4 +1,4 @@
-//! Tests of hubs and servers, which cross the crates below.
+//! Tests of hubs and servers, which use several of the crates below them.
 #![tactic(auto)]
 
 #[cfg(test)]

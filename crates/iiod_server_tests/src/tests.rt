@@ -1,4 +1,5 @@
-//! Hubs and servers. Each test with threads ends by itself, by a limit of turns, and none depends on who comes first.
+//! Hubs and servers. Each test with threads ends by itself, after a limited number of turns, and none depends on the order in
+//! which threads run.
 
 mod asked;
 mod connections;
@@ -27,7 +28,7 @@ use std::thread::Threads;
 // How often a test looks again, a millisecond apart, before it gives up.
 const TURNS: u32 = 10_000;
 
-// Reads a line of a description. Nothing is known here of what it says.
+// Reads a line of a description. The contract says nothing of what the line means.
 fn read_line(reader: &mut DescReader, line: &[u8]) -> Result<(), Fail>
     requires { line_count reader.old < 2 ^ 32 - 2 }
     ensures counted { line_count reader.new ≤ line_count reader.old + 1 }
@@ -37,7 +38,7 @@ fn read_line(reader: &mut DescReader, line: &[u8]) -> Result<(), Fail>
     Ok(())
 }
 
-// A device of two voltages, an acceleration and a timestamp, with one recorded row.
+// Describes a device of two voltages, an acceleration and a timestamp, with one recorded row.
 fn described(alloc: Global) -> Result<Desc, Fail>
     ensures { IfOk result (λ desc. IsWellFormed 0 desc) }
 {
@@ -57,22 +58,22 @@ fn hub_of(alloc: Global) -> Result<Hub, Fail> {
     Ok(Hub::new(alloc, described(alloc)?, Vec::new(alloc))?)
 }
 
-// A link in memory that has these bytes left, which come in pieces of at most 100. It has room for an answer at each of
-// `TURNS`.
+// Creates a link in memory that receives these bytes in pieces of at most 100. It has room for an answer at each of `TURNS`
+// turns.
 fn link_of(alloc: Global, bytes: &[u8]) -> Result<MemLink, Fail> {
     let source = MemSource::new(bytes.to_vec(alloc)?, 100, Vec::new(alloc));
     let sink = MemSink::new(alloc, 100_000, Vec::new(alloc))?;
     Ok(MemLink::new(source, sink))
 }
 
-// How a connection ends. Nothing more is known of it here than what its link tells.
+// Returns how a connection ends. The contract says no more of it than the link tells.
 fn end_of<R: Wait, L: Link>(rt: &R, alloc: Global, hub: &Hub, who: u32, link: &mut L) -> SessionEnd
     requires { ⊤ }
 {
     serve_connection(rt, alloc, hub, who, link, &OpenGate)
 }
 
-// How a server ends whose triggers aren't polled.
+// Returns how a server ends whose triggers aren't polled.
 fn serve_untimed<R: Threads + Wait + Sync, D: Door, G: Gate + Sync>(
     rt: &R,
     alloc: Global,
@@ -84,7 +85,7 @@ fn serve_untimed<R: Threads + Wait + Sync, D: Door, G: Gate + Sync>(
     serve_all(rt, alloc, hub, door, tickers, gate)
 }
 
-// How a server ends whose first trigger is polled at the moments of a ticker.
+// Returns how a server ends whose first trigger is polled at the moments of a ticker.
 fn serve_timed<R: Threads + Wait + Sync, D: Door, T: Ticker + Send + Drop, G: Gate + Sync>(
     rt: &R,
     alloc: Global,

@@ -50,7 +50,7 @@ serves_only front told client traces item reply w alone formed is moves =
     by None = tt
     by (Some m) = only_comes m client reply w
 
--- want of memory, before which nothing had changed
+-- memory ran out before anything had changed
 pub serves_short : (front : Front) (told : Option Machine) (client : ClientRecord) (traces : List (Option Trace)) (item : Item)
     → AnswersAlone front client item NoMemory → Moves front client traces item NoMemory client traces
     → Serves front told client traces item NoMemory told client traces
@@ -147,7 +147,7 @@ serves_refused front told client traces why some =
     serves_only front told client traces (Said (Err why)) (Refusal EINVAL) tt (refused_alone front client why some) tt (λ m. refused_is front m client why some)
     (refl, refl)
 
--- ---- what a command at a device is answered
+-- ---- the answers to a command at a device
 
 -- 0
 pub by_zero : (front : Front) (told told' : Option Machine) (client client' : ClientRecord) (traces traces' : List (Option Trace)) (item : Item)
@@ -293,7 +293,7 @@ pub prints_text : (manner : Manner) (front : Front) (a : Answer) (before after :
 prints_text manner front a before after t =
     record { reply = reply_of front (Ok a); is = inl refl; text = t; allowed = allowed manner (reply_of front (Ok a)) (answer_whole front a) }
 
--- a long text for which there was no memory
+-- a long text that there was no memory for
 pub prints_short : (manner : Manner) (front : Front) (a : Answer) (before mid after : List ℕ) (r : Result ⊤ Mem) → IsLong (Ok a) → mid ≡ before
     → OnOk r (after ≡ mid ++ text_of NoMemory) → OnOk r (IsAllowed manner NoMemory) → OnOk r (Prints manner front (Ok a) before after)
 prints_short manner front a before mid after (Ok done) long m t x =
@@ -326,7 +326,7 @@ pub at_once_answer : (manner : Manner) (said : Result Command Refused) → IsAtO
 at_once_answer manner (Ok (ReadBuf device asked)) once reply = absurd once
 at_once_answer manner said once reply = tt
 
--- ---- want of memory, before anything is done
+-- ---- memory runs out before anything is done
 
 short_at_once : (front : Front) (client : ClientRecord) (traces : List (Option Trace)) (command : Command) → IsAtOnce (Ok command)
     → AnswersAlone front client (Said (Ok command)) NoMemory × Moves front client traces (Said (Ok command)) NoMemory client traces

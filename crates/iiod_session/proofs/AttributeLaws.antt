@@ -41,7 +41,7 @@ use Rattle.iiod_session.proofs.ServeLaws.{all_comes, all_refused, serves_at}
 
 -- ---- an attribute of the device
 
--- a sample is no stored number
+-- a sample is not a stored number
 asked_not_stored : (shape : ShapeRecord) (clock : ℤ) (c : ℕ) (st : Station) (v : Fixed)
     → (ensure st.site.plugged ENODEV >>= (λ free. raw_answer shape clock c st)) ≡ Ok (StoredNumber v) → {A : Type 0} → A
 asked_not_stored shape clock c st v e = by st.site.plugged (is_empty st.members) (ask_fails st.site.driver) e
@@ -64,7 +64,7 @@ not_stored Output shape clock c st v e = by st.site.plugged e
     by false e = absurd (cc)
     by true e = absurd (cc)
 
--- where a stored number is read, nothing changes
+-- reading a stored number changes nothing
 still : (front : Front) (m : Machine) (dev : ℕ) (channel : Option ℕ) (a : Attr) (v : Fixed) → (read_attr_of front m dev channel a).answer ≡ Ok (StoredNumber v)
     → (read_attr_of front m dev channel a).machine ≡ m
 unfolding read_attr_of
@@ -72,7 +72,7 @@ still front m dev None a v e = refl
 still front m dev (Some c) attr.Raw v e = not_stored (kind_at front dev) (shape_at front dev) m.clock c (station_at m dev) v e
 still front m dev (Some c) a v e = refl
 
--- a stored number for whose digits there was no memory
+-- a stored number whose digits there was no memory for
 pub said_short : (front : Front) (told told' : Option Machine) (client : ClientRecord) (dev : ℕ) (target : Named) (v : Fixed)
     → IfSome told (λ m. Answers (read_attr_of front m dev target.channel target.attribute) m (Ok (StoredNumber v)) told')
     → IfSome told (λ m. Comes m client (read_device_attribute front m client dev target) NoMemory told' client)
@@ -108,7 +108,7 @@ module _ {S : Type 0} (seen : S → SeatRecord) where
         ∙ ap (λ (k : ℕ). record { reply = Value (decimal k); machine = m; client = client }) (sym v),
   )
 
--- ---- what the code found is what the definitions say
+-- ---- the code finds what the definitions say
 
 found_is : (front : Front) (m : Machine) (client : ClientRecord) (dev : ℕ) (place : Place) (name : Option (List ℕ)) (is_open plugged of_buffer : Bool)
     (shape : ShapeRecord) (w : Result Named Errno)
@@ -259,7 +259,7 @@ writes front told told' client dev place name payload is_open plugged shape x r 
     writes_found front told told' client dev place name payload is_open plugged shape (Ok x) (written_by (length payload) r) e0 e1 e2 e
     (wrote told told' client dev (length payload) x r a)
 
--- ---- how long a value's text is
+-- ---- the length of a value's text
 
 length-last_digits : (k n : ℕ) → length (last_digits k n) ≡ k
 length-last_digits zero n = refl
@@ -272,7 +272,7 @@ short_part form.Int part = omega arith
 short_part form.Micro part = let digits = length-last_digits 6 part in omega (arith, digits)
 short_part form.Nano part = let digits = length-last_digits 9 part in omega (arith, digits)
 
--- a stored number's
+-- the length of a stored number's text
 pub short_fixed : (v : Fixed) → v.whole < 2 ^ 32 → length (printed_fixed v) ≤ 32
 short_fixed v less = by v.negative
   where

@@ -1,4 +1,4 @@
--- The room that a block takes, and the block that stands once there was room for it.
+-- The room for a block, and the block once there was room for it.
 use Rattle.std.proofs.Common.{◌≡◌, ℕ, ◌+◌, ◌*◌, ◌^◌, ◌<◌, ◌≤◌, nat_le, nat_lt, List, [], ◌∷◌, ◌++◌, length, take, drop, append_assoc, length-append, Result, Ok, Err, IsOk, refl, sym, ap, ◌∙◌, arith}
 use Rattle.std.specs.Prelude.{⊤, pos}
 use Rattle.std.specs.Fmt.{decimal}
@@ -33,7 +33,7 @@ length-head channels mask came few =
       length-mask_text channels mask,
     )
 
--- room for the head of a block stands at the end of what was there
+-- room for the head of a block is appended to what was there
 pub record HasRoom (channels most : ℕ) (old new : List ℕ) : Type 0 where
   pub room : List ℕ
   pub size : length room ≡ head_length channels most
@@ -46,13 +46,13 @@ length-room channels most few =
     let mask : digit_count channels ≤ 16 = cond_both (nat_le channels 32) w32 w64 (λ w. 2 * byte_len w ≤ 16) (λ _. omega arith) (λ _. omega arith) in
     omega (arith, digits, mask)
 
--- where there was room, the text stands
+-- if there was room, the text is appended
 appended : (text old new : List ℕ) (capacity : ℕ) (r : Result ⊤ Mem) → Appends text old r new → FitsInRoom text old capacity r
     → length old + length text ≤ capacity → new ≡ old ++ text
 appended text old new capacity (Ok done) a f h = a
 appended text old new capacity (Err mem) a f h = absurd (cc (f h))
 
--- so does the room for the head of a block of fewer than 2^32 bytes
+-- ... and so is the room for the head of a block of fewer than 2^32 bytes
 pub room_stands : (channels most : ℕ) (old new : List ℕ) (capacity : ℕ) (r : Result ⊤ Mem)
     → AppendsRoom (head_length channels most) old r new → (length old + head_length channels most ≤ capacity → IsOk r)
     → most < 2 ^ 32 → length old + 28 ≤ capacity
@@ -78,7 +78,7 @@ headed channels mask most came start old roomy scans out new h e whole put =
     ∙ drop-append-add old (h.room ++ scans) (head_length channels most) ∙ ap (λ n. drop n (h.room ++ scans)) (sym h.size) ∙ drop-append_seam h.room scans in
     put ∙ rw (before, after) refl
 
--- and the closing after its scans
+-- ... and the closing after its scans
 pub closed : (channels mask came asked : ℕ) (old scans new ended : List ℕ) (capacity : ℕ) (r : Result ⊤ Mem)
     → came ≡ length scans → came < 2 ^ 32 → new ≡ old ++ (head_text channels mask came ++ scans) → length old + (came + 30) ≤ capacity
     → Appends (closing_text came asked) new r ended → FitsInRoom (closing_text came asked) new capacity r

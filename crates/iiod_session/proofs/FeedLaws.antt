@@ -42,7 +42,7 @@ module _ {S : Type 0} {Answered : S → Item → Reply → S → Type 0} where
     run = run_then Answered a b c f.items g.items f.replies g.replies f.run g.run;
   }
 
-  -- the same with further bytes that aren't looked at
+  -- ... with further bytes that aren't looked at
   pub fed_more : (a b : S) (all left : Scanned) (before after bytes : List ℕ)
       → FedBy Answered a all before after b left → FedBy Answered a (scan_on all bytes) before after b (scan_on left bytes)
   fed_more a b all left before after bytes f = record {
@@ -68,7 +68,7 @@ module _ {S : Type 0} {Answered : S → Item → Reply → S → Type 0} where
     run = (b, one, refl);
   }
 
--- what the seats gave follows from the answers
+-- the scans that the seats gave follow from the answers
 given_then : (manner : Manner) (front : Front) (items : List Item) (replies : List Reply) (seats : List SeatState) (traces : List (Option Trace)) (a b : State)
     (left : Scanned) (going : Going)
     → Stands manner front a left b going → AreSeated a.client.seats a.traces
@@ -104,7 +104,7 @@ module _ {S : Type 0} {Answered : S → Item → Reply → S → Type 0} {Unansw
   feeds_then manner front a b c all left rest before mid after going f g =
       feeds_of manner front a g.mid c all rest before after going (fed_then a b g.mid all left rest before mid after f g.fed) g.stands
 
-  -- where the connection doesn't go on, further bytes are left over
+  -- if the connection doesn't go on, further bytes are left over
   pub feeds_more : (manner : Manner) (front : Front) (a b : S) (all left : Scanned) (before after bytes : List ℕ) (going : Going) → going ≢ On
       → CarriesBy Answered Unanswered manner front a all before after b left going
       → CarriesBy Answered Unanswered manner front a (scan_on all bytes) before after b (scan_on left bytes) going
@@ -125,7 +125,7 @@ module _ {S : Type 0} {Answered : S → Item → Reply → S → Type 0} {Unansw
       }
       by Ended n s = (s.0, ap (λ x. scan_on x bytes) s.1 ∙ scan_end bytes)
 
-  -- where it goes on, nothing else happened
+  -- if it goes on, nothing else happened
   pub feeds_on : (manner : Manner) (front : Front) (a b : S) (all left : Scanned) (before after : List ℕ)
       → CarriesBy Answered Unanswered manner front a all before after b left On → FedBy Answered a all before after b left
   feeds_on manner front a b all left before after f = rw (sym f.stands.0) at f.fed

@@ -1,4 +1,4 @@
--- What the seats gave is what was answered.
+-- The scans that the seats gave are those that were answered.
 use Rattle.std.proofs.Common.{◌≡◌, ℕ, suc, zero, ◌+◌, ◌<◌, ◌==◌, ◌||◌, nat_lt, Bool, true, false, List, [], ◌∷◌, ◌++◌, length, length-append, refl, sym, ap, ◌∙◌, Option, Some, None, option_map, inl, inr, Ok, arith, ℤ}
 use Rattle.std.proofs.lemmas.Bool.{eqb-true, lt-ltb, ltb-true}
 use Rattle.std.proofs.lemmas.Bool.Decides.{nat_tests}
@@ -45,7 +45,7 @@ pub record AreSeated (seats : List SeatState) (traces : List (Option Trace)) : T
 
 -- ---- the first seat at a device
 
--- it stands in place i
+-- it has index i
 abbrev IsFirst : ℕ → List SeatState → ℕ → Type 0
 IsFirst dev [] i = ⊥
 IsFirst dev (s ∷ ss) zero = (s.dev == dev) ≡ true
@@ -100,7 +100,7 @@ first_is dev (x ∷ xs) (suc i) s f here = first_is dev xs i s f.1 here
 pub placed_at : (dev : ℕ) (seats : List SeatState) (i : ℕ) (s : SeatState) → place_of dev seats ≡ Some i → slice_get seats i ≡ Some s → s.dev ≡ dev
 placed_at dev seats i s at here = first_is dev seats i s (place_first dev seats i at) here
 
--- ---- a seat more
+-- ---- one more seat
 
 trace_last : (dev : ℕ) (seats : List SeatState) (traces : List (Option Trace)) (s : SeatState) (t : Option Trace) → length traces ≡ length seats
     → has_seat dev seats ≡ false
@@ -142,7 +142,7 @@ apart_last (x ∷ xs) s a h = by (λ none. apart_last xs s a.1 none) (x.dev == s
     by rest true e = let c : true ≡ false = rw e at h in cc
     by rest false e = (has_last x.dev xs s a.0 (turned _ _ e), rest (rw e at h))
 
--- ---- a seat less
+-- ---- one seat fewer
 
 no_trace : (dev : ℕ) (seats : List SeatState) (traces : List (Option Trace)) → has_seat dev seats ≡ false → trace_at dev seats traces ≡ None
 no_trace dev [] traces h = refl
@@ -236,7 +236,7 @@ trace_other k dev (suc i) (x ∷ xs) (y ∷ ys) trace' f e = ap (λ z. if x.dev 
 
 -- ---- one item
 
--- what stands at a device is what was given of it
+-- the trace at a device is what was given of it
 abbrev pub IsTold : (given : ℕ → List (List ℕ)) → List SeatState → List (Option Trace) → Type 0
 IsTold given seats traces = (dev : ℕ) (t : Trace) → trace_at dev seats traces ≡ Some t → t.given ≡ given dev
 
@@ -255,7 +255,7 @@ same : (front : Front) (item : Item) (reply : Reply) (seats seats' : List SeatSt
 same front item reply seats seats' traces traces' s t gives a =
     rw (s, t) (a, λ given is dev x e. is dev x e ∙ sym (gives dev (given dev)))
 
--- of a seat that begins nothing was given
+-- a seat that begins has given nothing
 none_given : (y : Option Trace) (x : Trace) → y ≡ option_map (λ (z : Trace). first_trace) y → y ≡ Some x → x.given ≡ []
 none_given None x f e = cc
 none_given (Some y) x f e = let first : Some x ≡ Some first_trace = sym e ∙ f in let here : x ≡ first_trace = cc in ap (λ (z : Trace). z.given) here
@@ -295,7 +295,7 @@ closed front device n k i seats traces at a = (
 
 -- ---- REMASK
 
--- another seat at the same device, in the place of one
+-- another seat at the same device, in place of one
 has_under : (dev i : ℕ) (seats : List SeatState) (s s' : SeatState) → slice_get seats i ≡ Some s → s'.dev ≡ s.dev
     → has_seat dev (slice_set seats i s') ≡ has_seat dev seats
 has_under dev i [] s s' here same = cc
@@ -317,7 +317,7 @@ trace_under dev zero (x ∷ xs) (t ∷ ts) s s' here same =
     let one : s ≡ x = cc in ap (λ (n : ℕ). if n == dev then t else trace_at dev xs ts) (same ∙ ap (λ (b : SeatState). b.dev) one)
 trace_under dev (suc i) (x ∷ xs) (t ∷ ts) s s' here same = ap (λ (z : Option Trace). if x.dev == dev then t else z) (trace_under dev i xs ts s s' here same)
 
--- the trace beside a seat
+-- the trace of a seat
 trace_beside : (i : ℕ) (seats : List SeatState) (traces : List (Option Trace)) (s : SeatState) → length traces ≡ length seats → slice_get seats i ≡ Some s
     → (t : Option Trace) × (slice_get traces i ≡ Some t)
 trace_beside i [] traces s long here = cc

@@ -1,4 +1,4 @@
--- What a piece of the stream is to the items, and what is made of it.
+-- What a piece of the stream means for the items, and what is made of it.
 use Rattle.std.proofs.Common.{◌≡◌, ◌≢◌, inl, ℕ, ◌<◌, ◌≤◌, ◌==◌, nat_lt, Bool, true, false, List, [], ◌∷◌, ◌++◌, ◌+◌, ◌-◌, take, drop, length, refl, sym, subst, ap, ◌∙◌, append-nil, Option, Some, None, IfSome, Result, Ok, Err, IfOk, arith}
 use Rattle.std.proofs.lemmas.List.{drop-drop, length-drop, take_rest}
 use Rattle.std.proofs.Math.Seq.{drop-append_seam}
@@ -320,7 +320,7 @@ resumed manner front a b c all left before mid after bytes next (Ok x) f g =
     (fed_more a b all left before mid bytes (feeds_on manner front a b all left before mid f)) g
 resumed manner front a b c all left before mid after bytes next (Err fault) f g = tt
 
--- where no bytes come after it
+-- if no bytes come after it
 pub again_feeds : {S : Type 0} {Answered : S → Item → Reply → S → Type 0} {Unanswered : S → Item → S → Type 0} (manner : Manner) (front : Front) (a b : S)
     (all left : Scanned) (before after bytes : List ℕ) (going : Going) → bytes ≡ []
     → CarriesBy Answered Unanswered manner front a all before after b left going

@@ -101,7 +101,7 @@ served_none front asked gone told told' s v v' same h r =
     by None f = tt
     by (Some m) f = (m, f.2, λ client. rw (not_less_is _ _ h, f.0, take-nil) (ap (λ e. refused e m client) (errno_is _ f.1)))
 
--- what an Iio answers to scans that are written is what the definitions say of the seat
+-- an `Iio` answers to scans that are written what the definitions say of the seat
 pub wrote_scans : (front : Front) (told told' : Option Machine) (s : SeatState) (v : SeatRecord) (payload : List ℕ) (r : Result ℕ No)
     → seat_state_id s ≡ seat_id v
     → IfSome told (λ m. Answers (write_scans_of front m s.dev (seat_id v) payload) m r told')

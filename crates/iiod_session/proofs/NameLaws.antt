@@ -1,4 +1,4 @@
--- Which attributes READ and WRITE find.
+-- The attributes that READ and WRITE find.
 use Rattle.std.proofs.Common.{◌≡◌, ℕ, ◌<◌, Bool, true, false, not, cond, ◌&&◌, subst, List, [], ◌∷◌, length, Option, Some, None, Result, Ok, Err, refl, ap, ◌∙◌}
 use Rattle.std.specs.List.{position}
 use Rattle.std.specs.Option.{ok_or, option_and_then}
@@ -37,7 +37,7 @@ same_scope_is scope.Buffer scope.Device e = absurd (cc)
 same_scope_is scope.Buffer scope.Channel e = absurd (cc)
 same_scope_is scope.Buffer scope.Buffer e = refl
 
--- an attribute that is found stands in the scope
+-- an attribute that is found is one of the scope's
 find_scope : (table : List Attr) (s : Scope) (name : List ℕ) (a : Attr) → find_in table s name ≡ Some a → (row_of a).scope ≡ s
 find_scope [] s name a e = absurd (cc)
 find_scope (x ∷ xs) s name a e = by (same_scope (row_of x).scope s) refl (bytes_eq (row_of x).name name) e (find_scope xs s name a)
@@ -61,7 +61,7 @@ channel_within shape name c e = by (id_of name) e
     by None e = absurd (cc)
     by (Some id) e = at shape.channels _ e
 
--- nothing is written to a number of a queue
+-- a number of a queue can't be written
 queue_numbers_kept : (a : Attr) → (row_of a).scope ≡ scope.Buffer → (text : List ℕ) → check_of a text ≡ Err EACCES
 queue_numbers_kept attr.Overruns e text = refl
 queue_numbers_kept attr.DataAvailable e text = refl
@@ -70,7 +70,7 @@ queue_numbers_kept attr.Discarded e text = refl
 queue_numbers_kept attr.Underruns e text = refl
 queue_numbers_kept a e text = absurd (cc)
 
--- what a text is checked for can be written
+-- an attribute for which a text is accepted can be written
 writable_is : (a : Attr) (text : List ℕ) (v : Fixed) → check_of a text ≡ Ok v → is_writable a ≡ true
 writable_is attr.Name text v e = absurd (cc)
 writable_is attr.Raw text v e = absurd (cc)

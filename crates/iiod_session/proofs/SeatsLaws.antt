@@ -49,7 +49,7 @@ module _ {S : Type 0} (seen : S → SeatRecord) where
         fresh = is.fresh;
       }
 
-  -- no two seats are at one device, with one more at a device where there was none
+  -- no two seats are at one device, after one is added at a device where there was none
   pub apart_joined : (held mid held' : List (OpenSeat S)) (h : OpenSeat S) → are_apart (seats_of seen held) ≡ true → place_of h.dev (seats_of seen held) ≡ None
       → mid ≡ held → held' ≡ mid ++ h ∷ [] → are_apart (seats_of seen held') ≡ true
   apart_joined held mid held' h a free z e =
@@ -196,13 +196,13 @@ module _ {S : Type 0} (seen : S → SeatRecord) where
       ∙ ap (λ (s : Option SeatState). write_at_seat front m client payload s) (get_is (seat_state_of seen) held i h l e) in
       subst (λ (a : Acted). Comes m client a reply told' client) (sym is) (w client)
 
-  -- a seat that changed nothing but its trace
+  -- ... after a seat changed nothing but its trace
   pub apart_set : (held : List (OpenSeat S)) (i : ℕ) (y h : OpenSeat S) → i < length held → h ≡ slice_index_or held i h
       → seat_state_of seen y ≡ seat_state_of seen h
       → are_apart (seats_of seen held) ≡ true → are_apart (seats_of seen (slice_set held i y)) ≡ true
   apart_set held i y h l e same a = rw (map_set_same (seat_state_of seen) held i y h l e same) a
 
-  -- a seat under another mask
+  -- ... after a seat got another mask
   pub apart_under_mask : (held : List (OpenSeat S)) (i : ℕ) (y h : OpenSeat S) → i < length held → h ≡ slice_index_or held i h → y.dev ≡ h.dev
       → are_apart (seats_of seen held) ≡ true → are_apart (seats_of seen (slice_set held i y)) ≡ true
   apart_under_mask held i y h l e same a =
@@ -281,7 +281,7 @@ module _ {S : Type 0} (seen : S → SeatRecord) where
         j.1,
   )
 
-  -- what a connection has is seated
+  -- the seats of a connection are apart, and each has its trace
   pub seated : (front : Front) (d : Client S) → IsClient seen front d → AreSeated (seats_of seen d.held.items) (traces_of seen d.held.items)
   seated front d is =
       record {
@@ -321,7 +321,7 @@ released_last : (m : Machine) (who : ℕ) (xs : List ℕ) (dev : ℕ) → all_re
 released_last m who [] dev = refl
 released_last m who (x ∷ xs) dev = ap (λ n. (ev_close_of n x who).machine) (released_last m who xs dev)
 
--- a holding that ends, or was none: either way the state is the one that is stated
+-- a holding that ends, or that there wasn't: either way the state is the stated one
 ended : (n : Machine) (dev who : ℕ) (r : Result ⊤ No) (t' : Option Machine) → r ≢ Err NoMem → Answers (ev_close_of n dev who) n r t'
     → t' ≡ Some (ev_close_of n dev who).machine
 ended n dev who (Ok done) t' some a = a.1
@@ -362,7 +362,7 @@ read_nowhere front dev asked told client traces at = record { exact = by told; m
     moved None e = (refl, refl)
     moved (Some i) e = absurd (cc)
 
--- what the code found is what the definitions say
+-- the code finds what the definitions say
 wanted_is : (front : Front) (m : Machine) (client : ClientRecord) (dev samples : ℕ) (text : List ℕ) (cyclic is_open plugged : Bool) (shape : ShapeRecord)
     (buffers : ℕ) (w : Result Wanted Errno)
     → is_open ≡ is_some (place_of dev client.seats) → plugged ≡ is_plugged m dev → shape ≡ shape_at front dev → buffers ≡ buffers_of dev client.buffers

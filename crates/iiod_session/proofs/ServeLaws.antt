@@ -48,7 +48,7 @@ pub all_comes : (front : Front) (told told' : Option Machine) (client client' : 
 all_comes front None told' client client' item o reply e c = tt
 all_comes front (Some m) told' client client' item o reply e c = comes_acts front m client client' item (o m) reply told' (e m) c
 
--- at a device of a kind that knows the command, and at another
+-- at a device of a kind that knows the command, and at one of another kind
 pub known : (is : Bool) (told told' : Option Machine) (client client' : ClientRecord) (dev : ℕ) (acted : Machine → Acted) (reply : Reply) → is ≡ true
     → IfSome told (λ m. Comes m client (acted m) reply told' client')
     → IfSome told (λ m. Comes m client (where_known is m client dev (acted m)) reply told' client')
@@ -68,12 +68,12 @@ all_refused front (Some m) client item e is = (m, refl, is m)
 
 -- ---- answers over any devices
 
--- where the connection has no seat at the device
+-- if the connection has no seat at the device
 seatless : (p : Option ℕ) (reply : Reply) → (p ≡ None → reply ≡ Refusal EBADF) → IfSome (at_seat p) (λ answer. IsOrShort answer reply)
 seatless None reply h = inl (h refl)
 seatless (Some i) reply h = tt
 
--- want of memory, in the place of another answer
+-- lack of memory, instead of another answer
 pub short_at : (o : Option ℕ) → IfSome (at_known (λ dev. None) o) (λ answer. IsOrShort answer NoMemory)
 short_at None = inr refl
 short_at (Some dev) = tt
@@ -86,7 +86,7 @@ pub short_seat : (seats : List SeatState) (o : Option ℕ) → IfSome (at_known 
 short_seat seats None = inr refl
 short_seat seats (Some dev) = short_place (place_of dev seats)
 
--- ... in that of a READBUF's, for which an output device is asked
+-- ... instead of a READBUF's answer, for which an output device is asked
 short_reader : (front : Front) (seats : List SeatState) (o : Option ℕ)
     → IfSome (at_known (λ dev. cond (is_output (kind_at front dev)) None (at_seat (place_of dev seats))) o) (λ answer. IsOrShort answer NoMemory)
 short_reader front seats None = inr refl
@@ -96,7 +96,7 @@ short_reader front seats (Some dev) = by (is_output (kind_at front dev))
     by true = tt
     by false = short_place (place_of dev seats)
 
--- a command that is answered by 0 where it isn't refused
+-- a command that is answered by 0 if it isn't refused
 pub settles : (front : Front) (item : Item) (r : Result ⊤ No) → Accepts front item zero_reply → AnswersAs front item (reply_by r)
 settles front item (Ok done) a = a
 settles front item (Err (NoErrno e)) a = tt
@@ -133,7 +133,7 @@ act_at front m client o (EvRead device) e = ap (λ x. at_device m client (λ dev
 act_at front m client o (EvClose device) e = ap (λ x. at_device m client (λ dev. ev_close_known front m client dev) x) (sym e)
 act_at front m client o command e = absurd e
 
--- where there is none of its name
+-- if there is no device of that name
 unknown : (front : Front) (told : Option Machine) (client : ClientRecord) (traces : List (Option Trace)) (command : Command) → IsAt front None command
     → AnswersAlone front client (Said (Ok command)) (Refusal ENODEV) → Moves front client traces (Said (Ok command)) (Refusal ENODEV) client traces
     → Serves front told client traces (Said (Ok command)) (Refusal ENODEV) told client traces
@@ -157,7 +157,7 @@ serves_unknown front told client traces (EvRead device) e = unknown front told c
 serves_unknown front told client traces (EvClose device) e = unknown front told client traces (EvClose device) e (rw (sym e) (inl refl)) (refl, refl)
 serves_unknown front told client traces command e = absurd e
 
--- where it is found
+-- if the device is found
 pub serves_at : (front : Front) (told told' : Option Machine) (client client' : ClientRecord) (traces traces' : List (Option Trace)) (command : Command)
     (dev : ℕ)
     (reply : Reply) → IsAt front (Some dev) command
@@ -324,7 +324,7 @@ no_read front told client traces device asked e =
           (refl, rw e (refl, refl));
     }
 
--- want of memory, before which nothing had changed
+-- memory ran out before anything had changed
 short_read : (front : Front) (told told' : Option Machine) (client client' : ClientRecord) (traces traces' : List (Option Trace)) (device : List ℕ) (asked : ℕ)
     → told' ≡ told → client' ≡ client → traces' ≡ traces → Serves front told client traces (Said (Ok (ReadBuf device asked))) NoMemory told' client' traces'
 short_read front told told' client client' traces traces' device asked t d s =
@@ -652,7 +652,7 @@ unchanged before after capacity capacity' same grows room =
     let long : length after ≡ length before = ap (λ (xs : List ℕ). length xs) same in
     omega (arith, long, grows, room)
 
--- after a take there is the room for what is left of READBUF's answer, where it was there before
+-- after a take there is room for the rest of READBUF's answer, if there was before
 pub room_after : (front : Front) (dev asked : ℕ) (told told' : Option Machine) (client : ClientRecord) (traces traces' : List (Option Trace))
     (before after : List ℕ)
     (capacity capacity' : ℕ) (took : Result Took Mem)

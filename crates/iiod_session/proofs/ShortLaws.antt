@@ -1,4 +1,4 @@
--- Answers by a number alone are short.
+-- Answers that are only a number are short.
 use Rattle.std.proofs.Common.{ℕ, ◌+◌, ◌^◌, ◌<◌, ◌≤◌, List, [], ◌∷◌, length, length-append, arith}
 use Rattle.std.specs.Prelude.{ℤ, negsuc}
 use Rattle.std.specs.Fmt.{decimal, signed_decimal}

@@ -1,4 +1,4 @@
--- What a session's stream holds, and further bytes of it.
+-- The stream of a session, and further bytes of it.
 use Rattle.std.proofs.Common.{◌≡◌, ◌≢◌, ℕ, nat_lt, ◌==◌, Bool, true, false, List, [], ◌∷◌, ◌++◌, take, drop, length, refl, sym, ap, ◌∙◌, if◌then◌else◌, append-nil, append_assoc, Option, Some, None, arith}
 use Rattle.std.proofs.lemmas.List.{take-append-drop}
 use Rattle.iiod_grammar.specs.declared.lines.Ready.TheVariants.{More, Payload, TooLong}
@@ -25,7 +25,7 @@ pub scan_rest : ItemsCutAnywhere → ScannerCutAnywhere → (x : Scanned) (n : �
     → scan_on x bytes ≡ scan_on (scan_on x (take n bytes)) (drop n bytes)
 scan_rest items scanner x n bytes = ap (λ bs. scan_on x bs) (sym (take-append-drop n bytes)) ∙ sym (scan_more items scanner x (take n bytes) (drop n bytes))
 
--- at the end further bytes mean nothing
+-- at the end of a stream further bytes mean nothing
 end_stays : (bytes : List ℕ) → after_bytes AtEnd bytes ≡ no_item AtEnd
 end_stays [] = refl
 end_stays (b ∷ bs) = end_stays bs
@@ -45,7 +45,7 @@ scanner_goes_on x pending = by x.wanted
     by None h = let n : InLine x.begun ≡ AtEnd = h in cc
     by (Some count) h = payload_goes_on pending count x.begun (length x.begun == count) refl h
 
--- where no piece is whole, no item is
+-- if no piece is whole, no item is
 payload_waits : (pending : Pending) (count : ℕ) (begun : List ℕ) → nat_lt (length begun) count ≡ true → (payload_after pending count begun).items ≡ []
 payload_waits pending count begun less = by (length begun == count) refl
   where
@@ -80,7 +80,7 @@ more_waits x bytes pending going ready =
     let same = is_cut x bytes going in
     ap (λ (f : LinesFed). (scanner_at f.lines pending).items) same ∙ more_by x bytes pending x.wanted refl (ap (λ (f : LinesFed). f.ready) (sym same) ∙ ready)
 
--- and all bytes are taken
+-- ... and all bytes are taken
 pub more_takes : (x : LinesRecord) (bytes : List ℕ) → x.overlong ≡ false → (feed_of x bytes).ready ≡ More → (feed_of x bytes).taken ≡ length bytes
 more_takes x bytes going ready =
     let same = is_cut x bytes going in

@@ -1,4 +1,4 @@
--- What a watch is told beside, and what is left without it.
+-- What a watch is told, and what is left without the watch.
 use Rattle.std.proofs.Common.{ℕ, Bool, List, [], ◌∷◌, ap, Option}
 use Rattle.iiod_grammar.specs.Stream.{Item, Scanned}
 use Rattle.iiod_reply.specs.Reply.{Reply}

@@ -1,4 +1,4 @@
--- What an item is answered over a told state, and what stands then.
+-- What an item is answered over a told state, and the state after it.
 use Rattle.std.specs.Prelude.{◌≡◌, ℕ, pos, Bool, true, false, not, ◌&&◌, nat_le, nat_lt, codes, ⊤, List, [], ◌∷◌, ◌++◌, take, drop, length, slice_get, slice_set, remove, Option, Some, None, is_some, Result, Ok, Err, if◌then◌else◌}
 use Rattle.std.specs.Fmt.{decimal}
 use Rattle.std.specs.Option.{ok_or}
@@ -24,7 +24,7 @@ use Rattle.iio_core.specs.Calls.{CallResult, machine_after_close, ev_close_of, e
 use Rattle.iiod_session.specs.Client.{Wanted, SeatState, ClientRecord, wanted_of, mask_wanted, buffers_of, seat_state_id, seat_state_remasked, place_of, with_count, with_holding, with_seats, without_holding}
 use Rattle.iiod_session.specs.Reading.{most_scans}
 
--- an answer, and what stands then
+-- an answer, and the state after it
 pub record Acted : Type 0 where
   pub reply : Reply
   pub machine : Machine
@@ -48,7 +48,7 @@ refused e m client = only (Refusal e) m client
 
 -- ---- OPEN
 
--- a seat more, where the device took the member
+-- one more seat, if the device accepted the member
 abbrev pub opened : ClientRecord → ℕ → Wanted → Machine → Result ℕ Errno → Acted
 opened client dev x m (Err e) = refused e m client
 opened client dev x m (Ok number) =
@@ -97,12 +97,12 @@ remask_wanted front m client i s (Err e) = refused e m client
 remask_wanted front m client i s (Ok mask) =
     let o = remask_of front m s.dev (seat_state_id s) mask s.capacity in remasked_seat client i s mask o.machine o.answer
 
--- a REMASK at the seat in place i
+-- a REMASK at the seat with index i
 abbrev pub remask_seat : Front → Machine → ClientRecord → List ℕ → ℕ → Option SeatState → Acted
 remask_seat front m client text i None = refused EBADF m client
 remask_seat front m client text i (Some s) = remask_wanted front m client i s (mask_wanted (shape_at front s.dev) s.capacity text)
 
--- a REMASK, by the place of the connection's seat at the device
+-- a REMASK, by the index of the connection's seat at the device
 abbrev pub remask_place : Front → Machine → ClientRecord → List ℕ → Option ℕ → Acted
 remask_place front m client text None = refused EBADF m client
 remask_place front m client text (Some i) = remask_seat front m client text i (slice_get client.seats i)
@@ -118,7 +118,7 @@ read_scans_of front m client s want asked (x ∷ xs) = record {
   client = client;
 }
 
--- nothing where less than one scan is asked for
+-- answered by 0 if less than one scan is asked for
 abbrev pub read_at_seat : Front → Machine → ClientRecord → SeatState → ℕ → Acted
 read_at_seat front m client s asked =
     if nat_lt asked (size_at front s.dev s.mask) then only zero_reply m client
@@ -133,9 +133,9 @@ abbrev pub read_at : Front → Machine → ClientRecord → ℕ → Option ℕ �
 read_at front m client asked None = refused EBADF m client
 read_at front m client asked (Some i) = read_seat front m client asked (slice_get client.seats i)
 
--- ---- what changes no seat
+-- ---- commands that change no seat
 
--- an answer by 0, where a call isn't refused; it may alter what the connection has
+-- an answer by 0, if a call isn't refused; it may alter what the connection has
 abbrev pub altered : (ClientRecord → ClientRecord) → ClientRecord → Machine → Result ⊤ Errno → Acted
 altered change client m (Ok done) = record { reply = zero_reply; machine = m; client = change client }
 altered change client m (Err e) = refused e m client
@@ -143,15 +143,15 @@ altered change client m (Err e) = refused e m client
 abbrev pub settled : ClientRecord → CallResult ⊤ → Acted
 settled client o = altered (λ d. d) client o.machine o.answer
 
--- a command that is refused where the device is unplugged
+-- a command that is refused if the device is unplugged
 abbrev pub if_plugged : Machine → ClientRecord → ℕ → Acted → Acted
 if_plugged m client dev acted = if is_plugged m dev then acted else refused ENODEV m client
 
--- a REMASK of a device, by its number; of an unplugged one it is refused before all else
+-- a REMASK of a device, by its number; if the device is unplugged, it is refused before all else
 abbrev pub remask_at : Front → Machine → ClientRecord → List ℕ → ℕ → Acted
 remask_at front m client text dev = if_plugged m client dev (remask_place front m client text (place_of dev client.seats))
 
--- a command that devices of some kinds alone know
+-- a command that only devices of some kinds know
 abbrev pub where_known : Bool → Machine → ClientRecord → ℕ → Acted → Acted
 where_known is_known m client dev acted = if is_known then acted else if_plugged m client dev (refused ENOSYS m client)
 
@@ -159,7 +159,7 @@ where_known is_known m client dev acted = if is_known then acted else if_plugged
 abbrev pub is_buffers_count : ℕ → Bool
 is_buffers_count n = nat_le 1 n && nat_le n MAX_BUFFERS
 
--- READBUF of a device: an output device isn't read
+-- READBUF of a device: an output device can't be read
 abbrev pub read_buffer_at : Front → Machine → ClientRecord → ℕ → ℕ → Acted
 read_buffer_at front m client asked dev =
     where_known (not (is_output (kind_at front dev))) m client dev (read_at front m client asked (place_of dev client.seats))
@@ -225,7 +225,7 @@ ev_read_at m client dev = let o = ev_read_of m dev client.who in record { reply 
 abbrev pub ev_close_at : Machine → ClientRecord → ℕ → Acted
 ev_close_at m client dev = if_plugged m client dev (let o = ev_close_of m dev client.who in altered (without_holding dev) client o.machine o.answer)
 
--- ---- the same at devices of all kinds
+-- ---- the commands above that only devices of some kinds know, at a device of any kind
 
 abbrev pub remask_known : Front → Machine → ClientRecord → List ℕ → ℕ → Acted
 remask_known front m client text dev = where_known (is_input (kind_at front dev)) m client dev (remask_at front m client text dev)
@@ -249,7 +249,7 @@ abbrev pub read_buffer_attribute : Machine → ClientRecord → Attr → Option 
 read_buffer_attribute m client a None = refused EBADF m client
 read_buffer_attribute m client a (Some s) = only (Value (buffer_text m a s)) m client
 
--- the attribute of a buffer of the connection, by the seat's place
+-- the attribute of a buffer of the connection, by the index of the seat
 abbrev pub read_buffer_attribute_at : Machine → ClientRecord → Attr → Option ℕ → Acted
 read_buffer_attribute_at m client a None = refused EBADF m client
 read_buffer_attribute_at m client a (Some i) = read_buffer_attribute m client a (slice_get client.seats i)
@@ -289,7 +289,7 @@ write_attribute_at front m client place name payload dev =
 
 -- ---- the end of a connection
 
--- the state once all seats are closed, and all holdings of events have ended, the last one first
+-- the state after all seats are closed and all holdings of events have ended, the last one first
 abbrev pub all_closed : Front → Machine → List SeatState → Machine
 all_closed front m [] = m
 all_closed front m (s ∷ ss) = machine_after_close front (all_closed front m ss) s.dev s.number
@@ -304,7 +304,7 @@ left_machine front m client = all_released (all_closed front m client.seats) cli
 abbrev pub left_client : ClientRecord → ClientRecord
 left_client client = record client { seats = []; holdings = [] }
 
--- the end of a stream: every seat and every holding ends. A broken limit is answered by its error, EXIT by nothing
+-- the reply to the end of a stream, which closes every seat and ends every holding: a broken limit's error, nothing to EXIT
 abbrev pub end_reply : Option Errno → Reply
 end_reply None = Nothing
 end_reply (Some e) = Refusal e
@@ -319,7 +319,7 @@ abbrev pub at_device : Machine → ClientRecord → (ℕ → Acted) → Option �
 at_device m client on None = refused ENODEV m client
 at_device m client on (Some dev) = on dev
 
--- what an item is answered, and what stands then
+-- what an item is answered, and the state after it
 unfoldable pub act : Front → Machine → ClientRecord → Item → Acted
 act front m client (Said (Ok (Open device samples text cyclic))) =
     at_device m client (λ dev. open_at front m client dev samples text cyclic) (find_device front device)
@@ -346,7 +346,7 @@ act front m client (Said (Err why)) = refused EINVAL m client
 act front m client (End error) = ended front m client error
 act front m client item = only Nothing m client
 
--- ... or want of memory, which changes nothing
+-- ... or memory ran out, which changes nothing
 abbrev pub Acts : Front → Machine → ClientRecord → Item → Reply → Option Machine → ClientRecord → Type 0
 Acts front m client item NoMemory told client' = (told ≡ Some m) × (client' ≡ client)
 Acts front m client item reply told client' =

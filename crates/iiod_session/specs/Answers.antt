@@ -1,5 +1,4 @@
--- What a command is answered, as the code has it, and what the functions that print it promise. Cited by private functions
--- alone.
+-- The answer to a command, as the code has it, and what the functions that print it promise. Cited only by private functions.
 use Rattle.std.specs.Prelude.{◌≡◌, ◌⊎◌, ℕ, ◌≤◌, pos, ⊤, List, ◌++◌, length, Option, Result, Ok, Err, string_bytes}
 use Rattle.std.specs.Fmt.{decimal, signed_decimal}
 use Rattle.iio_event.specs.Code.{event_bytes}
@@ -20,7 +19,7 @@ use Rattle.iiod_session.specs.Seat.{Trace}
 
 -- ---- answers
 
--- the reply that it is
+-- an answer as a reply
 abbrev pub reply_of : Front → Result Answer No → Reply
 reply_of front (Ok (answer.Number n)) = Number (pos n)
 reply_of front (Ok answer.Help) = help_reply
@@ -34,17 +33,17 @@ reply_of front (Ok (answer.Trigger t)) = Value (trigger_name front t)
 reply_of front (Ok (answer.Event event)) = Raw (event_bytes event)
 reply_of front (Err why) = reply_by (Err why)
 
--- a number, where a call isn't refused
+-- a number, if a call isn't refused
 abbrev pub answer_by : ℕ → Result ⊤ No → Result Answer No
 answer_by n (Ok done) = Ok (answer.Number n)
 answer_by n (Err why) = Err why
 
--- the room that is taken first is enough for it, unless it is long
+-- the room that is taken first is enough for the answer, unless it is long
 abbrev pub Fits : Result Answer No → Type 0
 Fits (Ok (answer.Fixed digits)) = length (string_bytes digits) ≤ 32
 Fits r = Unit {0}
 
--- it may be of any length. Nothing has changed then, so that want of memory can be answered in its place
+-- an answer that may have any length. Nothing has changed then, so that lack of memory can be answered instead
 abbrev pub IsLong : Result Answer No → Type 0
 IsLong (Ok answer.Help) = Unit {0}
 IsLong (Ok answer.Version) = Unit {0}
@@ -74,7 +73,7 @@ IsTrigger (Err why) = Unit {0}
 
 -- ---- commands at a device
 
--- the device that the command names is found as that number, or there is none of its name
+-- the device that the command names has that number, or no device has its name
 abbrev pub IsAt : Front → Option ℕ → Command → Type 0
 IsAt front dev (Open device samples text cyclic) = dev ≡ find_device front device
 IsAt front dev (Close device) = dev ≡ find_device front device
@@ -96,7 +95,7 @@ pub record ServesBy (front : Front) (told : Option Machine) (client : ClientReco
   pub served : Serves front told client traces item (reply_of front r) told' client' traces'
   pub short : IsLong r → Serves front told client traces item NoMemory told' client' traces'
 
--- the answer was printed, or want of memory in the place of a long one
+-- the answer was printed, or, instead of a long one, lack of memory
 pub record Prints (manner : Manner) (front : Front) (r : Result Answer No) (before after : List ℕ) : Type 0 where
   pub reply : Reply
   pub is : (reply ≡ reply_of front r) ⊎ ((reply ≡ NoMemory) × IsLong r)

@@ -1,5 +1,5 @@
--- What a connection has of the devices: its seats, its buffers counts, and the devices whose events go to it. The seats'
--- traces stand beside, in the same order.
+-- What a connection has open at the devices: its seats, its buffers counts, and the devices whose events it holds. The seats'
+-- traces are a separate list, in the same order.
 use Rattle.std.specs.Prelude.{◌≡◌, ℕ, ◌+◌, ◌-◌, ◌*◌, ◌^◌, ◌==◌, ◌<◌, ◌≤◌, ◌||◌, ◌&&◌, min, nat_lt, not, Bool, true, false, List, [], ◌∷◌, ◌++◌, map, filter, length, if◌then◌else◌, Option, Some, is_none, unwrap_or, All, Result, position}
 use Rattle.iio_base.specs.Refusals.{first_refusal, unless_refused}
 use Rattle.iio_text.specs.declared.errors.Errno.{Errno}
@@ -24,10 +24,10 @@ pub record SeatState : Type 0 where
   pub number : ℕ
   pub mask : ℕ
   pub capacity : ℕ
-  -- how many scans its REMASKs discarded
+  -- the number of scans that its REMASKs discarded
   pub discarded : ℕ
 
--- whose queue it is
+-- the member whose queue it is
 abbrev pub seat_state_id : SeatState → MemberId
 seat_state_id s = record { number = s.number; mask = s.mask }
 
@@ -37,7 +37,7 @@ pub record ClientRecord : Type 0 where
   pub buffers : List BuffersCount
   pub holdings : List ℕ
 
--- the seat at a device, by its place in the list
+-- the index of the seat at a device
 abbrev pub place_of : ℕ → List SeatState → Option ℕ
 place_of dev seats = position (λ (s : SeatState). s.dev == dev) seats
 
@@ -51,7 +51,7 @@ abbrev pub are_apart : List SeatState → Bool
 are_apart [] = true
 are_apart (s ∷ ss) = not (has_seat s.dev ss) && are_apart ss
 
--- the buffers count of a device: the one of its SET
+-- the buffers count of a device: that of its SET, if any
 abbrev pub buffers_of : ℕ → List BuffersCount → ℕ
 buffers_of dev [] = FIRST_BUFFERS
 buffers_of dev (b ∷ bs) = if b.dev == dev then b.count else buffers_of dev bs
@@ -59,11 +59,11 @@ buffers_of dev (b ∷ bs) = if b.dev == dev then b.count else buffers_of dev bs
 abbrev pub with_seats : List SeatState → ClientRecord → ClientRecord
 with_seats seats client = record client { seats = seats }
 
--- the buffers count of a device is set
+-- sets the buffers count of a device
 abbrev pub with_count : ℕ → ℕ → ClientRecord → ClientRecord
 with_count dev n client = record client { buffers = filter (λ (b : BuffersCount). not (b.dev == dev)) client.buffers ++ record { dev = dev; count = n } ∷ [] }
 
--- a device more whose events are held, and one less
+-- adds a device to those whose events are held, or removes it
 abbrev pub with_holding : ℕ → ClientRecord → ClientRecord
 with_holding dev client = record client { holdings = client.holdings ++ dev ∷ [] }
 
@@ -72,12 +72,12 @@ without_holding dev client = record client { holdings = filter (λ d. not (d == 
 
 -- ---- what an OPEN asks for
 
--- a mask, and how many scans the queue is to hold
+-- a mask, and the number of scans that the queue is to hold
 pub record Wanted : Type 0 where
   pub mask : ℕ
   pub capacity : ℕ
 
--- the capacity is the samples times the buffers count; scans come round again at an output device alone
+-- the capacity is the samples times the buffers count; scans are repeated only at an output device
 unfoldable pub wanted_of : (is_open plugged : Bool) → Kind → ShapeRecord → (buffers samples : ℕ) → (text : List ℕ) → (cyclic : Bool) → Result Wanted Errno
 wanted_of is_open plugged kind shape buffers samples text cyclic =
     let mask = unwrap_or (mask_of text (count_of shape)) 0 in
@@ -86,8 +86,8 @@ wanted_of is_open plugged kind shape buffers samples text cyclic =
     (first_refusal (asked_refusals (not plugged) (cyclic && not (is_output kind)) (is_none (mask_of text (count_of shape))) (not (has_data shape mask))
     (is_excess capacity (scan_size shape mask)) is_open))
 
--- what an OPEN asks for, where that isn't refused: the mask of its text, the samples times the buffers count as the capacity,
--- and CYCLIC at an output device alone
+-- what an OPEN asks for, if that isn't refused: the mask of its text, the samples times the buffers count as the capacity, and
+-- CYCLIC only at an output device
 pub record IsWanted (kind : Kind) (shape : ShapeRecord) (buffers samples : ℕ) (text : List ℕ) (cyclic : Bool) (x : Wanted) : Type 0 where
   pub mask : mask_of text (count_of shape) ≡ Some x.mask
   pub capacity : x.capacity ≡ samples * buffers
@@ -100,7 +100,7 @@ mask_wanted shape capacity text =
     unless_refused mask
     (first_refusal (mask_refusals (is_none (mask_of text (count_of shape))) (not (has_data shape mask)) (nat_lt MAX_BYTES (capacity * scan_size shape mask))))
 
--- a count of discarded scans with those that waited; it stays at 2^64 - 1
+-- a count of discarded scans, raised by those that waited; it stops at 2^64 - 1
 abbrev pub more_discarded : ℕ → ℕ → ℕ
 more_discarded n waiting = min (n + waiting) (2 ^ 64 - 1)
 
@@ -141,7 +141,7 @@ module _ {S : Type 0} (seen : S → SeatRecord) where
   abbrev pub AllHeld : Front → List (OpenSeat S) → Type 0
   AllHeld front held = All (IsHeld front) held
 
-  -- each seat is, no two are at one device, and events are held of input devices that are there
+  -- each seat is held so, no two are at one device, and the devices whose events are held are input devices that are there
   pub record IsClient (front : Front) (d : Client S) : Type 0 where
     pub seats : AllHeld front d.held.items
     pub apart : are_apart (seats_of d.held.items) ≡ true

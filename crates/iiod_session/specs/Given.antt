@@ -1,4 +1,4 @@
--- The scans that READBUF's answers give, device by device, by the items and their answers alone.
+-- The scans that READBUF's answers give, for each device, by the items and their answers alone.
 use Rattle.std.specs.Prelude.{◌≡◌, ℕ, ◌==◌, Bool, false, List, [], ◌∷◌, ◌++◌, Option, Some, None, Ok, if◌then◌else◌}
 use Rattle.std.specs.Option.{option_map_or}
 use Rattle.iiod_grammar.specs.Command.{Open, ReadBuf, Remask}
@@ -12,32 +12,31 @@ use Rattle.iiod_session.specs.Seat.{Trace}
 abbrev pub is_named : Front → List ℕ → ℕ → Bool
 is_named front device dev = option_map_or (λ k. k == dev) (find_device front device) false
 
--- what was given of a device, once an item was answered: an OPEN or a REMASK that is accepted begins anew, a READBUF adds its
--- scans
+-- the scans given of a device, after an item is answered: an accepted OPEN or REMASK begins anew, a READBUF adds its scans
 abbrev pub given_by : Front → ℕ → Item → Reply → List (List ℕ) → List (List ℕ)
 given_by front dev (Said (Ok (Open device samples text cyclic))) (Number n) given = if is_named front device dev then [] else given
 given_by front dev (Said (Ok (ReadBuf device asked))) (Block channels mask scans bytes) given = if is_named front device dev then given ++ scans else given
 given_by front dev (Said (Ok (Remask device text))) (Number n) given = if is_named front device dev then [] else given
 given_by front dev item reply given = given
 
--- after items with their answers
+-- the scans given after these items with their answers
 abbrev pub given_after : Front → ℕ → List Item → List Reply → List (List ℕ) → List (List ℕ)
 given_after front dev (item ∷ items) (reply ∷ replies) given = given_after front dev items replies (given_by front dev item reply given)
 given_after front dev items replies given = given
 
 -- ---- seats and their traces
 
--- what the seat at a device tells
+-- the trace of the seat at a device
 abbrev pub trace_at : ℕ → List SeatState → List (Option Trace) → Option Trace
 trace_at dev (s ∷ ss) (t ∷ ts) = if s.dev == dev then t else trace_at dev ss ts
 trace_at dev seats traces = None
 
--- the scans that it gave; none where there is no seat
+-- the scans that a seat gave; none if there is no seat
 abbrev pub given_in : Option Trace → List (List ℕ)
 given_in None = []
 given_in (Some t) = t.given
 
--- for each device whose seat tells: the scans that it gave are those before and those of the answers
+-- for each device whose seat has a trace: the scans that it gave are those given before, followed by those of the answers
 abbrev pub GivenIs : Front → List Item → List Reply → (seats : List SeatState) → (traces : List (Option Trace)) → (seats' : List SeatState)
     → (traces' : List (Option Trace))
     → Type 0

@@ -1,4 +1,4 @@
--- The kind of a device as the code has it. Cited by private functions alone.
+-- The kind of a device as the code has it. Cited only by private functions.
 use Rattle.iio_desc.specs.Kind as kind
 use Rattle.iiod_session.specs.declared.kinds.Kind.{Kind}
 use Rattle.iiod_session.specs.declared.kinds.Kind.TheVariants.{Input, Output, Average}

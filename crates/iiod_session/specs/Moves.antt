@@ -31,7 +31,7 @@ ReadMoves front s asked reply trace trace' = MatchBool (nat_lt asked (size_at fr
     ((reply ≡ zero_reply) × (trace' ≡ trace))
     (ReadsAs (channel_count front s.dev) s.mask (most_scans asked (size_at front s.dev s.mask) s.capacity) asked reply trace trace')
 
--- at the seat in place i
+-- a READBUF at the seat with index i
 pub record ReadsAt (front : Front) (asked : ℕ) (seats : List SeatState) (traces : List (Option Trace)) (i : ℕ) (reply : Reply) (traces' : List (Option Trace)) :
     Type
     0 where
@@ -53,8 +53,8 @@ ReadsFrom front asked seats traces (Some dev) reply traces' = MatchBool (is_outp
     (((reply ≡ Refusal ENODEV) ⊎ (reply ≡ Refusal ENOSYS)) × (traces' ≡ traces))
     (ReadsBy front asked seats traces (place_of dev seats) reply traces')
 
--- a seat more at a device where there was none, under the mask of the OPEN's text, of a capacity that is its samples times the
--- buffers count of the device. Nothing was taken of it yet
+-- one more seat at a device where there was none, under the mask of the OPEN's text, with the OPEN's samples times the buffers
+-- count of the device as capacity. Nothing has been taken from it yet
 pub record Joins (front : Front) (device : List ℕ) (samples : ℕ) (text : List ℕ) (cyclic : Bool) (client : ClientRecord) (traces : List (Option Trace))
     (client' : ClientRecord) (traces' : List (Option Trace)) : Type 0 where
   pub s : SeatState
@@ -67,7 +67,7 @@ pub record Joins (front : Front) (device : List ℕ) (samples : ℕ) (text : Lis
   pub told : traces' ≡ traces ++ t ∷ []
   pub fresh : t ≡ option_map (λ (x : Trace). first_trace) t
 
--- a seat less
+-- one seat fewer
 pub record Leaves (front : Front) (device : List ℕ) (client : ClientRecord) (traces : List (Option Trace)) (client' : ClientRecord)
     (traces' : List (Option Trace)) : Type
     0 where
@@ -78,7 +78,7 @@ pub record Leaves (front : Front) (device : List ℕ) (client : ClientRecord) (t
   pub gone : client' ≡ with_seats (remove client.seats i) client
   pub told : traces' ≡ remove traces i
 
--- a seat of the device under another mask, that of the REMASK's text, with its capacity as it was; what it tells begins anew
+-- a seat of the device under another mask, that of the REMASK's text, with its capacity as it was; its trace begins anew
 pub record RemasksAt (front : Front) (dev : ℕ) (text : List ℕ) (client : ClientRecord) (traces : List (Option Trace)) (client' : ClientRecord)
     (traces' : List (Option Trace)) : Type 0 where
   pub s : SeatState
@@ -94,12 +94,12 @@ pub record RemasksAt (front : Front) (dev : ℕ) (text : List ℕ) (client : Cli
   pub told : traces' ≡ slice_set traces i t
   pub fresh : t ≡ option_map (λ (x : Trace). first_trace) t
 
--- the same at the device of that name
+-- ... at the device of that name
 abbrev pub Remasks : Front → (device text : List ℕ) → ClientRecord → List (Option Trace) → ClientRecord → List (Option Trace) → Type 0
 Remasks front device text client traces client' traces' =
     (dev : ℕ) × (find_device front device ≡ Some dev) × RemasksAt front dev text client traces client' traces'
 
--- what the connection has besides is altered
+-- what the connection has besides its seats is altered
 pub record Alters (front : Front) (device : List ℕ) (change : ℕ → ClientRecord → ClientRecord) (client : ClientRecord) (traces : List (Option Trace))
     (client' : ClientRecord) (traces' : List (Option Trace)) : Type 0 where
   pub dev : ℕ
@@ -107,7 +107,7 @@ pub record Alters (front : Front) (device : List ℕ) (change : ℕ → ClientRe
   pub made : client' ≡ change dev client
   pub told : traces' ≡ traces
 
--- what an item and its answer make of what the connection has: a refusal, and want of memory, change nothing but a seat's trace
+-- what an item and its answer make of what the connection has: a refusal, or lack of memory, changes at most a seat's trace
 abbrev pub Moves : Front → ClientRecord → List (Option Trace) → Item → Reply → ClientRecord → List (Option Trace) → Type 0
 Moves front client traces (Said (Ok (Open device samples text cyclic))) (Number n) client' traces' =
     Joins front device samples text cyclic client traces client' traces'
@@ -125,25 +125,25 @@ Moves front client traces item reply client' traces' = (client' ≡ client) × (
 
 -- ---- answers
 
--- the answer of a command at a device, where it is known without asking: -19 where there is none of that name
+-- the answer to a command at a device, if it is known without asking: -19 if there is no device of that name
 abbrev pub at_known : (ℕ → Option Reply) → Option ℕ → Option Reply
 at_known on None = Some (Refusal ENODEV)
 at_known on (Some dev) = on dev
 
--- ... and -9 where the connection has no seat at it
+-- ... and -9 if the connection has no seat at it
 abbrev pub at_seat : Option ℕ → Option Reply
 at_seat None = Some (Refusal EBADF)
 at_seat (Some i) = None
 
--- of a command that any connection may give at a device
+-- ... to a command that any connection may give at a device
 abbrev pub of_device : Front → List ℕ → Option Reply
 of_device front device = at_known (λ dev. None) (find_device front device)
 
--- of one that is for the connection's own seat there
+-- ... to one that needs the connection's own seat there
 abbrev pub of_seat : Front → ClientRecord → List ℕ → Option Reply
 of_seat front client device = at_known (λ dev. at_seat (place_of dev client.seats)) (find_device front device)
 
--- the answer of an item that needs no device; none where a device is asked
+-- the answer to an item that needs no device; none if a device is asked
 abbrev pub answer_alone : Front → ClientRecord → Item → Option Reply
 answer_alone front client (Said (Ok Help)) = Some help_reply
 answer_alone front client (Said (Ok Exit)) = Some Nothing
@@ -171,16 +171,16 @@ answer_alone front client (Written device (Some target) payload) = of_device fro
 answer_alone front client (Streamed device payload) = of_device front device
 answer_alone front client (End error) = Some (end_reply error)
 
--- an answer; want of memory, where it is one
+-- the answer, or lack of memory instead, unless nothing is answered
 abbrev pub IsOrShort : (answer reply : Reply) → Type 0
 IsOrShort Nothing reply = reply ≡ Nothing
 IsOrShort answer reply = (reply ≡ answer) ⊎ (reply ≡ NoMemory)
 
--- an item that needs no device has its answer over any `Iio`
+-- an item that needs no device has this answer over any `Iio`
 abbrev pub AnswersAlone : Front → ClientRecord → Item → Reply → Type 0
 AnswersAlone front client item reply = IfSome (answer_alone front client item) (λ answer. IsOrShort answer reply)
 
--- what a command at a device is answered where it isn't refused. What a READBUF is stands in `Moves`, and the others need no
+-- what a command at a device is answered if it isn't refused. For a READBUF this is said by `Moves`, and the others need no
 -- device
 abbrev pub Accepts : Front → Item → Reply → Type 0
 Accepts front (Said (Ok (Open device samples text cyclic))) reply = reply ≡ zero_reply
@@ -197,7 +197,7 @@ Accepts front (Written device (Some target) payload) reply = reply ≡ Number (p
 Accepts front (Streamed device payload) reply = (taken : ℕ) × (taken ≤ length payload) × (reply ≡ Number (pos taken))
 Accepts front item reply = Unit {0}
 
--- ... or it is refused, or there was no memory for it
+-- ... or it is refused, or memory ran out
 abbrev pub AnswersAs : Front → Item → Reply → Type 0
 AnswersAs front item (Refusal e) = Unit {0}
 AnswersAs front item NoMemory = Unit {0}

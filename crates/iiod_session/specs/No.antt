@@ -1,4 +1,4 @@
--- How a session is told of a refusal by a device. Want of memory has no errno.
+-- How a session learns of a refusal by a device. Lack of memory has no errno.
 use Rattle.std.specs.Prelude.{Option, Some, None}
 use Rattle.iio_text.specs.declared.errors.Errno.{Errno}
 use Rattle.iio_event.specs.declared.monitor.Held.{Held}
@@ -10,27 +10,27 @@ use Rattle.iio_core.specs.Faults.{errno_of, held_errno, holder_errno, raw_errno,
 use Rattle.iiod_session.specs.declared.iio.No.{No}
 use Rattle.iiod_session.specs.declared.iio.No.TheVariants.{Errno as NoErrno, Mem as NoMem}
 
--- without an errno, memory ran out
+-- a refusal by its errno; without one, memory ran out
 abbrev pub no_by : Option Errno → No
 no_by (Some e) = NoErrno e
 no_by None = NoMem
 
--- of a fault of joining
+-- the refusal for a fault of joining
 abbrev pub no_of : JoinFault → No
 no_of f = no_by (errno_of f)
 
--- of a fault of another mask
+-- the refusal for a fault of a change of masks
 abbrev pub remask_no : RemaskFault → No
 remask_no f = no_by (remask_errno f)
 
--- of a fault of a sample
+-- the refusal for a fault of a sample
 abbrev pub raw_no : RawFault → No
 raw_no f = NoErrno (raw_errno f)
 
--- of events that have a holder
+-- the refusal if events have a holder already
 abbrev pub held_no : Held → No
 held_no held = NoErrno (held_errno held)
 
--- of one who is not their holder
+-- the refusal for a connection that isn't their holder
 abbrev pub holder_no : NotHolder → No
 holder_no none = NoErrno (holder_errno none)

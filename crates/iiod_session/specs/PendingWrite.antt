@@ -1,22 +1,23 @@
--- The command that isn't done, as a session keeps it: a WRITE or WRITEBUF whose payload comes, or a READBUF that waits.
+-- The command that isn't done yet, as a session keeps it: a WRITE or WRITEBUF whose payload is being received, or a READBUF
+-- that waits.
 use Rattle.std.specs.Prelude.{ℕ, Bool, List, Option, Some, None, if◌then◌else◌, option_map}
 use Rattle.iiod_grammar.specs.Command.{Place, Target, AtDevice, AtBuffer, AtDebug, AtInput, AtOutput}
 use Rattle.iiod_grammar.specs.Stream.{Pending, OfWrite, OfWriteBuf}
 use Rattle.iiod_session.specs.declared.pending_write.PlaceKind.{PlaceKind}
 use Rattle.iiod_session.specs.declared.pending_write.PlaceKind.TheVariants.{Device, Buffer, Debug, Input, Output}
 
--- what a WRITE names; what a READBUF asks of the device. A WRITEBUF names the device alone
+-- the words of a WRITE, or those of a READBUF; of a WRITEBUF only the device
 pub record PendingRecord : Type 0 where
   pub device : List ℕ
   pub target : Option Target
   pub is_scans : Bool
   pub asked : ℕ
 
--- whose payload comes
+-- the command whose payload is being received
 abbrev pub pending_of : PendingRecord → Pending
 pending_of x = if x.is_scans then OfWriteBuf x.device else OfWrite x.device x.target
 
--- a place by its kind, and by its channel where it has one
+-- a place by its kind, and by its channel if it has one
 abbrev pub place_by : PlaceKind → (channel : List ℕ) → Place
 place_by Device channel = AtDevice
 place_by Buffer channel = AtBuffer

@@ -1,4 +1,4 @@
--- What the functions below a command promise. Cited by private functions alone.
+-- What the functions that carry out a command promise. Cited only by private functions.
 use Rattle.std.specs.Prelude.{◌≡◌, ℕ, pos, ◌+◌, ◌≤◌, Bool, List, [], ◌∷◌, ◌++◌, length, remove, slice_set, Option, Some, None, option_map, IfSome, IsOk, Result, Ok, Err, ⊤}
 use Rattle.iio_base.specs.declared.Mem.{Mem}
 use Rattle.iio_text.specs.declared.errors.Errno.TheVariants.{EAGAIN, ENODEV}
@@ -29,33 +29,33 @@ reply_by (Ok done) = zero_reply
 reply_by (Err (NoErrno e)) = Refusal e
 reply_by (Err NoMem) = NoMemory
 
--- a server answers want of memory, where there is the room for a short answer
+-- a server answers even if memory runs out, provided that there is room for a short answer
 abbrev pub AnswersInRoom : {A : Type 0} → Manner → (before : List ℕ) → (capacity : ℕ) → Result A Mem → Type 0
 AnswersInRoom manner before capacity result = manner ≡ Server → length before + SHORT_ANSWER ≤ capacity → IsOk result
 
--- the room for what is left of READBUF's answer: none after a block
+-- the room for the rest of READBUF's answer: none is needed after a block
 abbrev pub HasRoomAfter : Result Took Mem → (before : List ℕ) → (capacity : ℕ) → Type 0
 HasRoomAfter (Ok Scan) before capacity = Unit {0}
 HasRoomAfter took before capacity = length before + SHORT_ANSWER ≤ capacity
 
--- an outcome, or want of memory, which changes nothing
+-- an outcome, or lack of memory, which changes nothing
 abbrev pub Comes : Machine → ClientRecord → Acted → Reply → Option Machine → ClientRecord → Type 0
 Comes m client acted NoMemory told client' = (told ≡ Some m) × (client' ≡ client)
 Comes m client acted reply told client' = (n : Machine) × (told ≡ Some n) × (acted ≡ record { reply = reply; machine = n; client = client' })
 
--- an answer that isn't want of memory
+-- an answer other than lack of memory
 abbrev pub IsWhole : Reply → Type 0
 IsWhole NoMemory = ⊥
 IsWhole reply = Unit {0}
 
--- an answer that isn't that of a queue in which nothing waits
+-- an answer other than that of a queue in which nothing waits
 abbrev pub IsFound : Reply → Type 0
 IsFound (Refusal EAGAIN) = ⊥
 IsFound reply = Unit {0}
 
 -- ---- seats
 
--- a seat more at a device where there was none, by what its OPEN asks for
+-- one more seat at a device where there was none, by what its OPEN asks for
 pub record JoinsAt (dev : ℕ) (x : Wanted) (client : ClientRecord) (traces : List (Option Trace)) (client' : ClientRecord) (traces' : List (Option Trace)) : Type
     0 where
   pub number : ℕ
@@ -65,12 +65,12 @@ pub record JoinsAt (dev : ℕ) (x : Wanted) (client : ClientRecord) (traces : Li
   pub told : traces' ≡ traces ++ t ∷ []
   pub fresh : t ≡ option_map (λ (x : Trace). first_trace) t
 
--- ... or nothing more
+-- ... or no change
 abbrev pub JoinsBy : ℕ → Wanted → ClientRecord → List (Option Trace) → Result ⊤ No → ClientRecord → List (Option Trace) → Type 0
 JoinsBy dev x client traces (Ok done) client' traces' = JoinsAt dev x client traces client' traces'
 JoinsBy dev x client traces (Err e) client' traces' = (client' ≡ client) × (traces' ≡ traces)
 
--- a seat more by an OPEN's words, or nothing more
+-- one more seat by an OPEN's words, or no change
 abbrev pub OpensBy : Front → (dev samples : ℕ) → (text : List ℕ) → (cyclic : Bool) → ClientRecord → List (Option Trace) → Result ⊤ No → ClientRecord
     → List (Option Trace) → Type 0
 OpensBy front dev samples text cyclic client traces (Ok done) client' traces' =
@@ -78,7 +78,7 @@ OpensBy front dev samples text cyclic client traces (Ok done) client' traces' =
     × JoinsAt dev x client traces client' traces'
 OpensBy front dev samples text cyclic client traces (Err e) client' traces' = (client' ≡ client) × (traces' ≡ traces)
 
--- a seat less, or nothing less
+-- one seat fewer, or no change
 abbrev pub LeavesBy : ℕ → ClientRecord → List (Option Trace) → Result ⊤ No → ClientRecord → List (Option Trace) → Type 0
 LeavesBy dev client traces (Ok done) client' traces' =
     (i : ℕ) × (place_of dev client.seats ≡ Some i) × (client' ≡ with_seats (remove client.seats i) client) × (traces' ≡ remove traces i)
@@ -89,7 +89,7 @@ abbrev pub RemasksBy : Front → (dev : ℕ) → (text : List ℕ) → ClientRec
 RemasksBy front dev text client traces (Ok done) client' traces' = RemasksAt front dev text client traces client' traces'
 RemasksBy front dev text client traces (Err e) client' traces' = (client' ≡ client) × (traces' ≡ traces)
 
--- the seat itself, over a told state: what a REMASK of it makes, in whatever place it stands
+-- what a REMASK makes of the seat itself over a told state, whatever its index
 abbrev pub RemaskTold : Front → List ℕ → Machine → SeatState → Result ⊤ No → Option Machine → SeatState → Type 0
 RemaskTold front text m s (Ok done) told s' = (n : Machine) × (told ≡ Some n)
     × ((client : ClientRecord) (i : ℕ) → remask_seat front m client text i (Some s)
@@ -98,7 +98,7 @@ RemaskTold front text m s (Err (NoErrno e)) told s' = (n : Machine) × (told ≡
     × ((client : ClientRecord) (i : ℕ) → remask_seat front m client text i (Some s) ≡ record { reply = Refusal e; machine = n; client = client })
 RemaskTold front text m s (Err NoMem) told s' = told ≡ Some m
 
--- ... and over any Iio
+-- ... and over any `Iio`
 abbrev pub RemaskMoves : Front → List ℕ → SeatState → Option Trace → Result ⊤ No → SeatState → Option Trace → Type 0
 RemaskMoves front text s trace (Ok done) s' trace' = (mask waiting : ℕ)
     × (mask_of text (count_of (shape_at front s.dev)) ≡ Some mask) × (s' ≡ seat_state_remasked mask waiting s)
@@ -107,7 +107,7 @@ RemaskMoves front text s trace (Err e) s' trace' = (s' ≡ s) × (trace' ≡ tra
 
 -- ---- WRITEBUF
 
--- the reply by the number of bytes that were taken
+-- the reply by the number of bytes taken
 abbrev pub taken_by : Result ℕ No → Reply
 taken_by (Ok taken) = Number (pos taken)
 taken_by (Err why) = reply_by (Err why)
@@ -126,7 +126,7 @@ pub record ReadServed (front : Front) (asked : ℕ) (told told' : Option Machine
   pub moves : ReadMoves front s asked reply trace trace'
   pub whole : IsWhole reply
 
--- by the first take's answer. Before memory ran out nothing had changed
+-- ... by the answer of the first take. If memory ran out, nothing changed
 abbrev pub ReadHeld : Front → ℕ → Option Machine → Option Machine → SeatState → Option Trace → Option Trace → List ℕ → List ℕ → Result Took Mem → Type 0
 ReadHeld front asked told told' s trace trace' before after (Ok Scan) =
     (reply : Reply) × (after ≡ before ++ text_of reply) × IsFound reply × ReadServed front asked told told' s trace trace' reply
@@ -160,7 +160,7 @@ ReadAt front dev asked told told' client traces traces' before after (Err mem) =
 
 -- ---- one item
 
--- want of memory is an answer of the server alone
+-- only a server answers lack of memory
 abbrev pub IsAllowed : Manner → Reply → Type 0
 IsAllowed Script NoMemory = ⊥
 IsAllowed manner reply = Unit {0}

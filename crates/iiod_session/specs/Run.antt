@@ -1,4 +1,4 @@
--- A feed: the items of what came and was not answered yet, each with its answer, one after another.
+-- A feed: the items received and not answered yet, each with its answer, one after another.
 use Rattle.std.specs.Prelude.{◌≡◌, ◌≢◌, ℕ, List, [], ◌∷◌, ◌++◌, Option, Some, IfSome}
 use Rattle.std.specs.List.{flat_map}
 use Rattle.iio_text.specs.declared.errors.Errno.TheVariants.{EAGAIN}
@@ -18,7 +18,7 @@ use Rattle.iiod_session.specs.Moves.{Serves}
 use Rattle.iiod_session.specs.Performs.{IsAllowed, IsAnswerOf, IsReadOf}
 use Rattle.iiod_session.specs.Seat.{SeatRecord, Trace}
 
--- what stands at the devices, where it is told, and what the connection has, with the traces of its seats
+-- the state of the devices, if it is told, and what the connection has, with the traces of its seats
 pub record State : Type 0 where
   pub told : Option Machine
   pub client : ClientRecord
@@ -38,7 +38,7 @@ abbrev pub FindsNone : Front → State → Item → State → Type 0
 FindsNone front a item b = Serves front a.told a.client a.traces item (Refusal EAGAIN) b.told b.client b.traces
 
 -- ---- items one after another, over any states: `Answered` says what an item and its answer make, `Unanswered` what a READBUF
--- makes that waits
+-- that waits makes
 
 module _ {S : Type 0} (Answered : S → Item → Reply → S → Type 0) where
   -- these items, each with its answer
@@ -48,7 +48,7 @@ module _ {S : Type 0} (Answered : S → Item → Reply → S → Type 0) where
   RunBy a [] (reply ∷ replies) b = ⊥
   RunBy a (item ∷ items) [] b = ⊥
 
-  -- the first of the items that are whole were answered: `all` are those before, with where the stream stands, `left` those after
+  -- the first of the whole items were answered: `all` is the stream before, `left` what is left of it
   pub record FedBy (a : S) (all : Scanned) (before after : List ℕ) (b : S) (left : Scanned) : Type 0 where
     pub items : List Item
     pub replies : List Reply
@@ -58,7 +58,7 @@ module _ {S : Type 0} (Answered : S → Item → Reply → S → Type 0) where
     pub run : RunBy a items replies b
 
 module _ {S : Type 0} (Unanswered : S → Item → S → Type 0) (manner : Manner) (front : Front) where
-  -- the first item that is left is a READBUF of that device, for which nothing waits
+  -- the first item left is a READBUF of that device, for which nothing waits
   pub record IsWaitingBy (dev : ℕ) (a : S) (left : Scanned) (b : S) : Type 0 where
     pub server : manner ≡ Server
     pub item : Item
@@ -67,20 +67,20 @@ module _ {S : Type 0} (Unanswered : S → Item → S → Type 0) (manner : Manne
     pub read : IsReadOf front dev item
     pub served : Unanswered a item b
 
-  -- how the connection stands then
+  -- how the connection then stands
   abbrev pub StandsBy : S → Scanned → S → Going → Type 0
   StandsBy a left b On = (b ≡ a) × (left.next ≢ AtEnd)
   StandsBy a left b (Waits dev) = IsWaitingBy dev a left b
   StandsBy a left b Ended = (b ≡ a) × (left ≡ record { items = []; next = AtEnd })
 
--- the first of these items were carried out, and the connection stands so
+-- the first of these items were carried out, and the connection then stands so
 pub record CarriesBy {S : Type 0} (Answered : S → Item → Reply → S → Type 0) (Unanswered : S → Item → S → Type 0) (manner : Manner) (front : Front)
     (a : S) (all : Scanned) (before after : List ℕ) (b : S) (left : Scanned) (going : Going) : Type 0 where
   pub mid : S
   pub fed : FedBy Answered a all before after mid left
   pub stands : StandsBy Unanswered manner front mid left b going
 
--- ---- over what stands at the devices and what the connection has
+-- ---- over the state of the devices and what the connection has
 
 abbrev pub Run : Manner → Front → State → List Item → List Reply → State → Type 0
 Run manner front = RunBy (IsAnswered manner front)
@@ -94,7 +94,7 @@ Stands manner front = StandsBy (FindsNone front) manner front
 abbrev pub Carries : Manner → Front → State → Scanned → List ℕ → List ℕ → State → Scanned → Going → Type 0
 Carries manner front = CarriesBy (IsAnswered manner front) (FindsNone front) manner front
 
--- and what the seats gave is what was answered
+-- ... and the scans that the seats gave are those that were answered
 pub record Feeds (manner : Manner) (front : Front) (a : State) (all : Scanned) (before after : List ℕ) (b : State) (left : Scanned) (going : Going) : Type
     0 where
   pub carried : Carries manner front a all before after b left going
@@ -102,7 +102,7 @@ pub record Feeds (manner : Manner) (front : Front) (a : State) (all : Scanned) (
 
 -- ---- in a script, over a told state: everything is determined
 
--- what the items are answered, and what stands after them
+-- the bytes of the answers to the items, and the state after them
 abbrev pub texts_of : Front → Machine → ClientRecord → List Item → List ℕ
 texts_of front m client [] = []
 texts_of front m client (item ∷ items) =

@@ -11,14 +11,14 @@ use Rattle.iio_core.specs.Front.{Front, channel_count, shape_at, size_at}
 use Rattle.iio_core.specs.Machine.{Machine, MemberId, is_plugged, queue_of, with_queue}
 use Rattle.iio_core.specs.Calls.{CallResult}
 
--- what a seat tells, if anything: the scans that it gave, how many of its takes found nothing, and whether the last of
--- these found the device unplugged
+-- what a seat records, if anything: the scans that it gave, how many of its takes found nothing, and whether the last of these
+-- found the device unplugged
 pub record Trace : Type 0 where
   pub given : List (List ℕ)
   pub empties : ℕ
   pub gone : Bool
 
--- a seat: the member's number, its mask, the bytes of its scans, how many its queue holds, and its trace
+-- a seat: the member's number, its mask, the bytes of its scans, the number of scans that its queue can hold, and its trace
 pub record SeatRecord : Type 0 where
   pub number : ℕ
   pub mask : ℕ
@@ -26,7 +26,7 @@ pub record SeatRecord : Type 0 where
   pub capacity : ℕ
   pub trace : Option Trace
 
--- whose queue a seat takes from
+-- the member from whose queue a seat takes
 abbrev pub seat_id : SeatRecord → MemberId
 seat_id s = record { number = s.number; mask = s.mask }
 
@@ -55,13 +55,13 @@ pub record MayOpen (front : Front) (dev mask capacity : ℕ) : Type 0 where
   pub scans : capacity ≤ MAX_SCANS
   pub bytes : capacity * size_at front dev mask ≤ MAX_BYTES
 
--- the seat is one of the device, under this mask and of this capacity
+-- the seat belongs to the device, under this mask and with this capacity
 pub record IsOwned (front : Front) (dev mask capacity : ℕ) (s : SeatRecord) : Type 0 where
   pub under : s.mask ≡ mask
   pub sized : s.size ≡ size_at front dev mask
   pub bounded : s.capacity ≡ capacity
 
--- the seat is one of the device, under some mask
+-- the seat belongs to the device, under some mask
 abbrev pub IsOfDevice : Front → ℕ → SeatRecord → Type 0
 IsOfDevice front dev s = IsOwned front dev s.mask s.capacity s
 
@@ -70,25 +70,25 @@ pub record IsNew (front : Front) (dev mask capacity : ℕ) (s : SeatRecord) : Ty
   pub owned : IsOwned front dev mask capacity s
   pub fresh : s.trace ≡ option_map (λ (t : Trace). first_trace) s.trace
 
--- the seat of a member under another mask: its number and its capacity stay, and what it tells begins anew
+-- the seat of a member under another mask: its number and its capacity stay, and its trace begins anew
 pub record IsRemasked (front : Front) (dev mask : ℕ) (old new : SeatRecord) : Type 0 where
   pub number : new.number ≡ old.number
   pub owned : IsOwned front dev mask old.capacity new
   pub fresh : new.trace ≡ option_map (λ (t : Trace). first_trace) old.trace
 
--- and where that is refused the seat is as before
+-- ... and if that is refused the seat is as before
 abbrev pub Remasks : {A : Type 0} → Front → (dev mask : ℕ) → Result A No → (old new : SeatRecord) → Type 0
 Remasks front dev mask (Ok x) old new = IsRemasked front dev mask old new
 Remasks front dev mask (Err refusal) old new = new ≡ old
 
--- ---- what a call answers over a told state. Want of memory is free, and changes nothing
+-- ---- what a call answers over a told state. Memory may run out at any call, which changes nothing
 
 abbrev pub Answers : {A : Type 0} → CallResult A → Machine → Result A No → Option Machine → Type 0
 Answers o m (Ok x) told = (o.answer ≡ Ok x) × (told ≡ Some o.machine)
 Answers o m (Err (NoErrno e)) told = (o.answer ≡ Err e) × (told ≡ Some o.machine)
 Answers o m (Err NoMem) told = told ≡ Some m
 
--- a seat is known by its member's number
+-- a seat is identified by its member's number
 abbrev pub number_by : {S : Type 0} → (S → SeatRecord) → Result S No → Result ℕ No
 number_by seen (Ok s) = Ok (seen s).number
 number_by seen (Err refusal) = Err refusal

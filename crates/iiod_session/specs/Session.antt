@@ -14,8 +14,8 @@ use Rattle.iiod_session.specs.declared.manner.Going.TheVariants.{On, Waits, Ende
 use Rattle.iiod_session.specs.declared.manner.Manner.{Manner}
 use Rattle.iiod_session.specs.PendingWrite.{PendingRecord, pending_of}
 
--- how it is served, what the connection has, and its stream: the items that are whole and not answered yet, and where the
--- stream stands after all bytes that came
+-- the manner, what the connection has, and its stream: the items that are whole and not answered yet, and where the stream
+-- stands after all bytes received
 pub record SessionRecord (S : Type 0) : Type 0 where
   pub manner : Manner
   pub client : Client S
@@ -23,21 +23,21 @@ pub record SessionRecord (S : Type 0) : Type 0 where
 
 -- ---- the stream by the session's fields
 
--- where the stream stands: in a line or in the payload of the command that is kept, before a READBUF that waits, which
--- is the last piece, or at its end
+-- where the stream stands: in a line or in the payload of the command that is kept; before a READBUF that waits, which is the
+-- last piece; or at its end
 abbrev pub stream_by : Going → LinesRecord → (pending : PendingRecord) → Scanned
 stream_by On lines pending = scanner_at lines (pending_of pending)
 stream_by (Waits dev) lines pending = after_line lines.piece
 stream_by Ended lines pending = no_item AtEnd
 
--- a line that says none of EXIT, WRITE and WRITEBUF: it is an item by itself
+-- a line other than an EXIT, WRITE or WRITEBUF: it is an item by itself
 abbrev pub IsPlain : Result Command Refused → Type 0
 IsPlain (Ok Exit) = ⊥
 IsPlain (Ok (Write device target count)) = ⊥
 IsPlain (Ok (WriteBuf device count)) = ⊥
 IsPlain said = Unit {0}
 
--- a line that says none of EXIT, WRITE, WRITEBUF and READBUF: it is answered as soon as it is whole
+-- a line other than an EXIT, WRITE, WRITEBUF or READBUF: it is answered as soon as it is whole
 abbrev pub IsAtOnce : Result Command Refused → Type 0
 IsAtOnce (Ok Exit) = ⊥
 IsAtOnce (Ok (Write device target count)) = ⊥
@@ -51,14 +51,14 @@ IsReady On lines pending = lines.overlong ≡ false
 IsReady (Waits dev) lines pending = (lines ≡ after_piece lines.piece) × (command_of lines.piece ≡ Ok (ReadBuf pending.device pending.asked))
 IsReady Ended lines pending = Unit {0}
 
--- what a feed of `Lines` made whole, as the items that it is
+-- the items that a feed of `Lines` completed
 abbrev pub piece_by : Ready → LinesRecord → (pending : PendingRecord) → Scanned
 piece_by More lines pending = stream_by On lines pending
 piece_by Line lines pending = after_line lines.piece
 piece_by Payload lines pending = one_item (with_payload (pending_of pending) lines.piece)
 piece_by TooLong lines pending = ended_by (Some E2BIG)
 
--- a whole piece, after which nothing is begun; none where the line is too long
+-- a whole piece, after which nothing has begun; nothing is said if the line is too long
 abbrev pub IsWhole : Ready → LinesRecord → Type 0
 IsWhole TooLong lines = Unit {0}
 IsWhole More lines = ⊥
@@ -66,7 +66,7 @@ IsWhole ready lines = lines ≡ after_piece lines.piece
 
 -- ---- bytes that were kept
 
--- the bytes that a READBUF keeps waiting: those after the first `taken`
+-- the bytes that wait after a READBUF that waits: those after the first `taken`
 abbrev pub unread_of : Going → ℕ → List ℕ → List ℕ
 unread_of (Waits dev) taken bytes = drop taken bytes
 unread_of going taken bytes = []

@@ -1,4 +1,4 @@
--- What READ and WRITE name, and what they answer, as contracts see it of the code. Cited by private functions alone.
+-- What READ and WRITE name, and what they answer, as contracts of the code see it. Cited only by private functions.
 use Rattle.std.specs.Prelude.{ℕ, pos, ⊤, List, Option, Some, Result, Ok, Err}
 use Rattle.std.specs.Option.{ok_or}
 use Rattle.iio_base.specs.Refusals.{◌>>=◌}
@@ -37,7 +37,7 @@ named_in kind scope channel name = do
   a ← attribute_of kind scope name
   Ok (record { channel = channel; attribute = a })
 
--- ... of the channel of that ID
+-- ... for the channel of that ID
 abbrev pub named_at_channel : Kind → ShapeRecord → (id name : List ℕ) → Result Named Errno
 named_at_channel kind shape id name = do
   c ← ok_or (channel_of shape id) ENOENT
@@ -45,7 +45,7 @@ named_at_channel kind shape id name = do
 
 -- ---- replies
 
--- to a WRITE of `count` bytes
+-- the reply to a WRITE of `count` bytes
 abbrev pub written_by : ℕ → Result ⊤ No → Reply
 written_by count (Ok done) = Number (pos count)
 written_by count (Err (NoErrno e)) = Refusal e

@@ -1,4 +1,4 @@
--- What an OPEN and a REMASK ask for, as contracts see it. Cited by private functions alone.
+-- What an OPEN and a REMASK ask for, as contracts see it. Cited only by private functions.
 use Rattle.std.specs.Prelude.{ℕ, Result, Ok, Err}
 use Rattle.iio_text.specs.declared.errors.Errno.{Errno}
 use Rattle.iiod_session.specs.declared.wanted.Wanted.{Wanted as CodeWanted}

@@ -1,4 +1,4 @@
--- A feed that tells a watch of its items: each once, in their order, with what stands just before it. (This project's own.)
+-- A feed that tells a watch its items: each once, in order, with the state just before it. (This project's own.)
 use Rattle.std.specs.Prelude.{◌≡◌, ℕ, ◌<◌, min, Bool, true, false, List, ◌∷◌, length, Option, Some, None, MatchBool, Ok, Err}
 use Rattle.iio_text.specs.declared.errors.Errno.TheVariants.{E2BIG, EFBIG}
 use Rattle.iiod_grammar.specs.declared.lines.TheConstants.{MAX_PAYLOAD}
@@ -24,8 +24,8 @@ IsTooLarge (Write device target count) = MAX_PAYLOAD < count
 IsTooLarge (WriteBuf device count) = MAX_PAYLOAD < count
 IsTooLarge said = ⊥
 
--- an item as a watch is told it: EXIT comes as the end that it is, a WRITE or WRITEBUF as the command once its payload is
--- whole, and so does one whose payload is too large. (A payload has no more bytes than a payload may have.)
+-- an item as it is told to a watch: EXIT comes as the end that it is, a WRITE or WRITEBUF as the command once its payload is
+-- whole, and also one whose payload is too large. (A payload has at most as many bytes as a payload may have.)
 abbrev pub IsSeen : Item → Seen → Type 0
 IsSeen (Said (Ok said)) (Command command) = IsPlain (Ok said) × (command_view command ≡ said)
 IsSeen (Said (Err why)) Refused = Unit {0}
@@ -36,7 +36,7 @@ IsSeen (End (Some EFBIG)) (Command command) = IsTooLarge (command_view command)
 IsSeen (End (Some E2BIG)) TooLong = Unit {0}
 IsSeen item seen = ⊥
 
--- what stands, with the watch, and whether the READBUF that comes first was told already, since it waited
+-- the state, with the watch, and whether the READBUF that comes first was told already, because it waited
 pub record Scene (W : Type 0) : Type 0 where
   pub state : State
   pub watch : W
@@ -49,13 +49,13 @@ abbrev pub is_waiting : Going → Bool
 is_waiting (Waits dev) = true
 is_waiting going = false
 
--- a line that is whole and isn't answered yet waits
+-- whether the first whole item is a line that isn't answered yet
 abbrev pub waits_in : List Item → Bool
 waits_in (Said line ∷ items) = true
 waits_in items = false
 
 module _ {W : Type 0} (makes : Front → Option Machine → ℕ → Item → W → W → Type 0) (manner : Manner) (front : Front) where
-  -- the watch once it was told an item
+  -- the watch after it was told an item
   abbrev pub Tells : Scene W → Item → W → Type 0
   Tells a item w = MatchBool a.told (w ≡ a.watch) (makes front a.state.told a.state.client.who item a.watch w)
 

@@ -1,4 +1,4 @@
-//! What a command is answered, and the bytes of answers, appended to what was answered before.
+//! The answers to commands, and their bytes, which are appended to earlier answers.
 
 ghost use Rattle.std.specs.Prelude.{◌≡◌, ◌≤◌, ◌+◌, ◌++◌, length, vec_capacity, Ok, Err, IfOk, IsOk, OnErr, OnOk};
 ghost use Rattle.iiod_reply.specs.Reply.{Appends, FitsInRoom, Line, Raw, Refusal, text_of};
@@ -17,21 +17,22 @@ use iio_text::{Errno, append_reserved};
 use iiod_reply::{number, value};
 use itoa::Buffer;
 
-/// The most bytes that an answer by a number alone has: 20 digits, and an LF after them.
+/// The most bytes of an answer that is only a number: 20 digits, and an LF after them.
 pub(crate) const SHORT_ANSWER: usize = 20 + 1;
 
-/// The most bytes that an answer has, but for READBUF's and for the texts of HELP, VERSION, PRINT and GETTRIG, which change
-/// nothing: the count, the longest value, and an LF after each. This room is taken before a command is performed, so that what
+/// The most bytes of an answer, except those of READBUF and the texts of HELP, VERSION, PRINT and GETTRIG, which change
+/// nothing: the count, the longest value, and an LF after each. This room is taken before a command is performed, so that a
+/// command that was performed is answered.
 /// was done is answered.
 pub(crate) const ANSWER_ROOM: usize = 2 + 1 + 32 + 1;
 
-// What want of memory is answered with.
+// The number of the error that is answered if memory runs out.
 const ENOMEM: i64 = 12;
 
-/// What a command is answered, where it isn't refused.
+/// What a command is answered if it isn't refused.
 #[derive(Drop)]
 pub(crate) enum Answer {
-    /// 0, how many bytes a WRITE has, or how many of a WRITEBUF were taken.
+    /// 0, the number of bytes of a WRITE, or the number of bytes of a WRITEBUF that were taken.
     Number(usize),
     /// The line that names the profile.
     Help,
@@ -53,7 +54,7 @@ pub(crate) enum Answer {
     Event(EventData),
 }
 
-/// That number, where a call isn't refused.
+/// Returns that number if a call isn't refused.
 pub(crate) fn answered(count: usize, called: Result<(), No>) -> Result<Answer, No>
     ensures value { result ≡ answer_by count called }
     ensures fits { Fits result }
@@ -62,7 +63,7 @@ pub(crate) fn answered(count: usize, called: Result<(), No>) -> Result<Answer, N
     Ok(Answer::Number(count))
 }
 
-/// Minus the error's number.
+/// Appends minus the error's number.
 pub(crate) fn push_refusal(out: &mut Vec<u8>, errno: Errno) -> Result<(), Mem>
     ensures text { Appends (text_of (Refusal errno)) out.old.items result out.new.items }
     ensures room { length out.old.items + SHORT_ANSWER ≤ vec_capacity out.old → IsOk result }
@@ -71,7 +72,7 @@ pub(crate) fn push_refusal(out: &mut Vec<u8>, errno: Errno) -> Result<(), Mem>
     number(-errno.number(), out)
 }
 
-/// Why a command is refused. In a script want of memory ends the call.
+/// Appends the refusal of a command. In a script `Mem` is returned instead if memory ran out.
 pub(crate) fn push_no(manner: Manner, no: No, out: &mut Vec<u8>) -> Result<(), Mem>
     ensures text { OnOk result (out.new.items ≡ out.old.items ++ text_of (reply_by (Err no))) }
     ensures allowed { OnOk result (IsAllowed manner (reply_by (Err no))) }
@@ -86,7 +87,7 @@ pub(crate) fn push_no(manner: Manner, no: No, out: &mut Vec<u8>) -> Result<(), M
     }
 }
 
-/// `push_no`, as the end of a command.
+/// Does what [`push_no`] does, at the end of a command.
 pub(crate) fn finish(manner: Manner, no: No, out: &mut Vec<u8>) -> Result<Progress, Mem>
     ensures done { IfOk result (λ p. p ≡ Progress.Done) }
     ensures text { OnOk result (out.new.items ≡ out.old.items ++ text_of (reply_by (Err no))) }
@@ -97,7 +98,7 @@ pub(crate) fn finish(manner: Manner, no: No, out: &mut Vec<u8>) -> Result<Progre
     Ok(Progress::Done)
 }
 
-// A text that is a line of its own. After `Mem`, `out` is unchanged.
+// Appends a text as a line of its own. After `Mem`, `out` is unchanged.
 fn push_line(out: &mut Vec<u8>, text: &[u8]) -> Result<(), Mem>
     ensures text { Appends (text_of (Line text.now)) out.old.items result out.new.items }
     ensures room { FitsInRoom (text_of (Line text.now)) out.old.items (vec_capacity out.old) result }
@@ -109,7 +110,7 @@ fn push_line(out: &mut Vec<u8>, text: &[u8]) -> Result<(), Mem>
     Ok(())
 }
 
-// Bytes, with their number in a line before them. After `Mem`, `out` is unchanged.
+// Appends bytes after a line with their number. After `Mem`, `out` is unchanged.
 #[inline(always)]
 fn push_raw(out: &mut Vec<u8>, bytes: &[u8]) -> Result<(), Mem>
     ensures text { Appends (text_of (Raw bytes.now)) out.old.items result out.new.items }
@@ -125,7 +126,7 @@ fn push_raw(out: &mut Vec<u8>, bytes: &[u8]) -> Result<(), Mem>
     Ok(())
 }
 
-// The text of an answer. After `Mem`, `out` is unchanged.
+// Appends the text of an answer. After `Mem`, `out` is unchanged.
 fn push_text<I: Iio>(iio: &I, answer: Answer, out: &mut Vec<u8>) -> Result<(), Mem>
     requires fits { Fits (Ok answer) }
     requires room { length out.old.items + ANSWER_ROOM ≤ vec_capacity out.old }
@@ -147,7 +148,8 @@ fn push_text<I: Iio>(iio: &I, answer: Answer, out: &mut Vec<u8>) -> Result<(), M
     }
 }
 
-/// The answer to a command, in the room that was taken first. Where a long text finds no memory, that is answered in its place.
+/// Appends the answer to a command into the room that was taken for it. If there is no memory for a long text, this is
+/// answered instead.
 #[inline(always)]
 pub(crate) fn push_answer<I: Iio>(
     manner: Manner,

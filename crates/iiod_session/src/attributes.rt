@@ -26,8 +26,8 @@ use iio_text::{Errno, print_fixed};
 use iiod_grammar::Place;
 use std::alloc::Global;
 
-// An attribute of the device, or of a channel. The memory for the digits of a stored number is taken after the call, which
-// changes nothing where it gives such a number.
+// Reads an attribute of the device, or of a channel. The memory for the digits of a stored number is taken after the call,
+// which changes nothing if it returns such a number.
 fn read_device<I: Iio>(alloc: Global, iio: &mut I, dev: u32, target: Named) -> Result<Answer, No>
     requires dev { dev < length (I.front (I.kept iio.old)).devices }
     requires may_read { MayRead (I.front (I.kept iio.old)) dev target.channel target.attribute }
@@ -47,7 +47,7 @@ fn read_device<I: Iio>(alloc: Global, iio: &mut I, dev: u32, target: Named) -> R
     }
 }
 
-// A number of a seat's queue.
+// Returns a number of a seat's queue.
 fn buffer_number<I: Iio>(iio: &mut I, h: &mut OpenSeat<I::Seat>, attribute: Attr) -> u64
     requires { IsHeld I.seen (I.front (I.kept iio.old)) h.old }
     ensures kept { I.kept iio.new ≡ I.kept iio.old }
@@ -67,7 +67,7 @@ fn buffer_number<I: Iio>(iio: &mut I, h: &mut OpenSeat<I::Seat>, attribute: Attr
     }
 }
 
-// The attribute of a buffer of the connection.
+// Reads the attribute of a buffer of the connection.
 fn read_buffer<I: Iio>(
     client: &mut Client<I::Seat>,
     iio: &mut I,
@@ -143,7 +143,7 @@ fn write_attribute_at<I: Iio>(
     iio.write_attr(dev, x.target.channel, x.target.attribute, x.value)
 }
 
-/// WRITE, with its whole payload. `EINVAL` comes where its words name nothing.
+/// WRITE, with its whole payload. `EINVAL` if its words name nothing.
 pub(crate) fn write_attribute<I: Iio>(
     client: &Client<I::Seat>,
     iio: &mut I,

@@ -1,4 +1,4 @@
-//! The commands of buffers that make no seat: READBUF, REMASK, WRITEBUF and SET.
+//! The commands of buffers that open no seat: READBUF, REMASK, WRITEBUF and SET.
 
 ghost use Rattle.std.specs.Prelude.{◌≡◌, ◌<◌, ◌≤◌, ◌==◌, filter, not, length, vec_capacity, Ok, IfOk, IfSome, IsOk};
 ghost use Rattle.iiod_grammar.specs.Command.{ReadBuf};
@@ -20,7 +20,7 @@ use crate::wanted::ensure;
 use iio_base::Mem;
 use iio_text::Errno;
 
-/// REMASK at the device of that number, of whichever kind: the mask of an input device's member alone can be exchanged.
+/// REMASK at the device of that number, of any kind: only the mask of an input device's member can be changed.
 pub(crate) fn remask_known<I: Iio>(
     client: &mut Client<I::Seat>,
     iio: &mut I,
@@ -43,7 +43,7 @@ pub(crate) fn remask_known<I: Iio>(
     remask_at(client, iio, dev, text)
 }
 
-/// READBUF. Room for the whole block is taken before a scan is taken, so that want of memory loses none.
+/// READBUF. Room for the whole block is taken before any scan is taken, so that no scan is lost if memory runs out.
 pub(crate) fn read_buffer<I: Iio>(
     manner: Manner,
     client: &mut Client<I::Seat>,
@@ -73,7 +73,7 @@ pub(crate) fn read_buffer<I: Iio>(
     }
 }
 
-// What is left of READBUF's answer.
+// Finishes READBUF's answer.
 fn finish_read(
     manner: Manner,
     dev: u32,
@@ -151,9 +151,8 @@ fn write_buffer_at<I: Iio>(
     write_at(client, iio, dev, payload)
 }
 
-/// WRITEBUF, with its whole payload: the number of bytes that were taken is answered. `ENODEV` comes where the device is
-/// unplugged, then `ENOSYS` where it is no output device, `EBADF` where the connection has no seat at it, and what
-/// [`Iio::write_scans`] refuses.
+/// WRITEBUF, with its whole payload, answered by the number of bytes taken. `ENODEV` if the device is unplugged, then `ENOSYS`
+/// if it isn't an output device, `EBADF` if the connection has no seat at it, then the refusals of [`Iio::write_scans`].
 pub(crate) fn write_buffer<I: Iio>(
     client: &mut Client<I::Seat>,
     iio: &mut I,

@@ -1,17 +1,17 @@
-//! What a connection has of the devices.
+//! What a connection has open at the devices.
 
 ghost use Rattle.std.specs.Prelude.{◌≡◌};
 
 use iio_mask::Mask;
 
-/// The buffers count of a device of which the connection has set none.
+/// The buffers count of a device if the connection hasn't set one.
 pub const FIRST_BUFFERS: u32 = 4;
 
-/// The most buffers.
+/// The largest buffers count.
 pub const MAX_BUFFERS: u32 = 64;
 
 /// A seat, with its device, the mask of its OPEN or of the last REMASK, the capacity of its OPEN, the bytes of its scans, and
-/// how many scans REMASKs discarded.
+/// the number of scans that REMASKs discarded.
 #[derive(Drop)]
 pub(crate) struct OpenSeat<S> {
     pub(crate) dev: u32,
@@ -23,7 +23,7 @@ pub(crate) struct OpenSeat<S> {
 }
 
 impl<S> OpenSeat<S> {
-    /// The device's number, and the seat.
+    /// Returns the device's number, and the seat.
     pub(crate) fn into_seat(self) -> (u32, S)
         ensures dev { result.0 ≡ self.dev }
         ensures seat { result.1 ≡ self.seat }
@@ -40,14 +40,14 @@ impl<S> OpenSeat<S> {
     }
 }
 
-/// How many buffers later OPENs of a device have.
+/// The buffers count for later OPENs of a device.
 #[derive(Clone, Copy, Debug, PartialEq, Eq)]
 pub(crate) struct BuffersCount {
     pub(crate) dev: u32,
     pub(crate) count: u32,
 }
 
-/// A connection's number, its seats, the buffers counts that it has set, and the devices whose events go to it.
+/// A connection's number, its seats, the buffers counts that it has set, and the devices whose events it holds.
 #[derive(Drop)]
 pub(crate) struct Client<S> {
     pub(crate) who: u32,

@@ -13,8 +13,7 @@ use crate::kinds::{is_input, unknown_refusal};
 use crate::wanted::ensure;
 use iio_text::Errno;
 
-/// EVOPEN at the device of that number, of whichever kind: input devices alone have events. The room for the holding is taken
-/// first.
+/// EVOPEN at the device of that number, of any kind: only input devices have events. The room for the holding is taken first.
 pub(crate) fn ev_open_known<I: Iio>(
     client: &mut Client<I::Seat>,
     iio: &mut I,
@@ -38,14 +37,14 @@ pub(crate) fn ev_open_known<I: Iio>(
     Ok(())
 }
 
-// Removes a device from those whose events are held.
+// Removes a device from those whose events the connection holds.
 fn forget_holding(holdings: &mut Vec<u32>, dev: u32)
     ensures { holdings.new.items ≡ filter (λ d. not (d == dev)) holdings.old.items }
 {
     holdings.retain(|d| *d != dev);
 }
 
-/// EVCLOSE at the device of that number, of whichever kind: input devices alone have events.
+/// EVCLOSE at the device of that number, of any kind: only input devices have events.
 pub(crate) fn ev_close_known<I: Iio>(
     client: &mut Client<I::Seat>,
     iio: &mut I,
@@ -69,7 +68,7 @@ pub(crate) fn ev_close_known<I: Iio>(
     Ok(())
 }
 
-/// EVREAD at the device of that number, of whichever kind.
+/// EVREAD at the device of that number, of any kind.
 pub(crate) fn ev_read_known<I: Iio>(
     client: &Client<I::Seat>,
     iio: &mut I,

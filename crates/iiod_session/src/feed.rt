@@ -1,4 +1,4 @@
-//! The items of a stream, carried out one after another.
+//! Carries out the items of a stream one after another.
 
 ghost use Rattle.std.specs.Prelude.{◌≡◌, ◌≤◌, ◌++◌, [], Ok, Err, IfOk, OnOk, drop, false, length, true};
 ghost use Rattle.iiod_grammar.specs.Command.{ReadBuf, command_of};
@@ -31,7 +31,7 @@ use iio_text::Errno;
 use iiod_grammar::{Command, Lines, MAX_PAYLOAD, Ready, Refused, cut_anywhere, read_line};
 use std::alloc::Global;
 
-// The answer to the end of a connection: none to EXIT, and the error of a broken limit.
+// Appends the answer to the end of a connection: nothing for EXIT, the error for a broken limit.
 fn push_end(out: &mut Vec<u8>, error: Option<Errno>) -> Result<(), Mem>
     ensures { OnOk result (out.new.items ≡ out.old.items ++ text_of (end_reply error)) }
 {
@@ -41,7 +41,7 @@ fn push_end(out: &mut Vec<u8>, error: Option<Errno>) -> Result<(), Mem>
     }
 }
 
-// The end of a connection.
+// Ends a connection: tells the watch, appends the answer, closes the seats and ends the holdings.
 fn end<I: Iio, W: Watch<I>>(
     client: &mut Client<I::Seat>,
     iio: &mut I,
@@ -65,7 +65,7 @@ fn end<I: Iio, W: Watch<I>>(
     Ok(Going::Ended)
 }
 
-// A line that is no command.
+// Answers a line that is no command.
 fn hear_refused<I: Iio, W: Watch<I>>(
     manner: Manner,
     client: &Client<I::Seat>,
@@ -86,7 +86,7 @@ fn hear_refused<I: Iio, W: Watch<I>>(
     Ok(Going::On)
 }
 
-// A command that is answered at once: not EXIT, WRITE, WRITEBUF or READBUF.
+// Carries out a command that is answered at once: not EXIT, WRITE, WRITEBUF or READBUF.
 fn hear_said<I: Iio, W: Watch<I>>(
     alloc: Global,
     manner: Manner,
@@ -112,7 +112,7 @@ fn hear_said<I: Iio, W: Watch<I>>(
     Ok(Going::On)
 }
 
-// A READBUF. What one that waits asks for is kept, and it isn't read again.
+// Carries out a READBUF. If it waits, the words that it needs are kept, so that its line isn't parsed again.
 fn hear_read<I: Iio, W: Watch<I>>(
     manner: Manner,
     client: &mut Client<I::Seat>,
@@ -148,7 +148,7 @@ fn hear_read<I: Iio, W: Watch<I>>(
     }
 }
 
-// The READBUF that waits is tried again.
+// Tries the READBUF that waits again.
 fn hear_again<I: Iio, W: Watch<I>>(
     manner: Manner,
     client: &mut Client<I::Seat>,
@@ -174,7 +174,7 @@ fn hear_again<I: Iio, W: Watch<I>>(
     }
 }
 
-// A whole line. What a WRITE or WRITEBUF names is kept until its payload has come.
+// Carries out a whole line. The words of a WRITE or WRITEBUF are kept until its payload has been received.
 fn hear_line<I: Iio, W: Watch<I>>(
     alloc: Global,
     manner: Manner,
@@ -226,7 +226,7 @@ fn hear_line<I: Iio, W: Watch<I>>(
     }
 }
 
-// A whole payload, of the WRITE or WRITEBUF that was kept.
+// Carries out the WRITE or WRITEBUF that was kept, with its whole payload.
 fn hear_payload<I: Iio, W: Watch<I>>(
     alloc: Global,
     manner: Manner,
@@ -273,7 +273,7 @@ fn hear_payload<I: Iio, W: Watch<I>>(
     )
 }
 
-// A piece that is whole: a line, the payload of the WRITE or WRITEBUF before it, or a line that is too long.
+// Carries out a piece that is whole: a line, the payload of the WRITE or WRITEBUF before it, or a line that is too long.
 fn hear_piece<I: Iio, W: Watch<I>>(
     alloc: Global,
     manner: Manner,
@@ -320,7 +320,7 @@ fn hear_piece<I: Iio, W: Watch<I>>(
     }
 }
 
-// Takes the pieces of further bytes one after another, and carries each out.
+// Takes the pieces of further bytes one after another, and carries out each.
 fn carry_on<I: Iio, W: Watch<I>>(
     alloc: Global,
     manner: Manner,
@@ -361,8 +361,8 @@ fn carry_on<I: Iio, W: Watch<I>>(
     }
 }
 
-/// Carries out the items that further bytes make whole, first the READBUF that waits, where there is one. Answers how many
-/// of the bytes were looked at, and how the connection stands then.
+/// Carries out the items that further bytes complete, beginning with the READBUF that waits, if there is one. Returns how many
+/// of the bytes were looked at, and how the connection then stands.
 pub(crate) fn carry_out<I: Iio, W: Watch<I>>(
     alloc: Global,
     manner: Manner,
@@ -406,7 +406,7 @@ pub(crate) fn carry_out<I: Iio, W: Watch<I>>(
     }
 }
 
-// The bytes that a READBUF keeps waiting.
+// Returns the bytes that wait after a READBUF that waits.
 fn unread(going: Going, taken: usize, bytes: &[u8]) -> &[u8]
     requires { taken ≤ length bytes.now }
     ensures { result.now ≡ unread_of going taken bytes.now }
@@ -417,7 +417,7 @@ fn unread(going: Going, taken: usize, bytes: &[u8]) -> &[u8]
     }
 }
 
-// Puts the bytes that a READBUF keeps waiting after those that wait already.
+// Appends the bytes that wait after a READBUF to those that wait already.
 fn keep_unread(left: &mut Vec<u8>, going: Going, taken: usize, bytes: &[u8]) -> Result<(), Mem>
     requires { taken ≤ length bytes.now }
     ensures { OnOk result (left.new.items ≡ left.old.items ++ unread_of going taken bytes.now) }
@@ -429,7 +429,7 @@ fn keep_unread(left: &mut Vec<u8>, going: Going, taken: usize, bytes: &[u8]) -> 
     Ok(())
 }
 
-/// The same with the bytes that were kept waiting, and keeps those that wait now.
+/// Does what [`carry_out`] does with the bytes that were kept waiting followed by `bytes`, and keeps those that wait after it.
 pub(crate) fn hear<I: Iio, W: Watch<I>>(
     alloc: Global,
     manner: Manner,

@@ -15,9 +15,9 @@ use std::alloc::AllocError;
 /// Why a call was refused.
 #[derive(Clone, Copy, Debug, PartialEq, Eq)]
 pub enum No {
-    /// With an error, which the client is answered.
+    /// With an error, which is sent to the client.
     Errno(Errno),
-    /// For want of memory.
+    /// Because memory ran out.
     Mem,
 }
 
@@ -37,7 +37,7 @@ impl From<AllocError> for No {
     }
 }
 
-/// What a fault of joining is answered with.
+/// Returns the refusal for a fault of joining.
 pub fn no_of(fault: JoinFault) -> No
     ensures { result ≡ no_of fault }
 {
@@ -49,7 +49,7 @@ pub fn no_of(fault: JoinFault) -> No
     }
 }
 
-/// What a fault of another mask is answered with.
+/// Returns the refusal for a fault of a change of masks.
 pub fn remask_no(fault: RemaskFault) -> No
     ensures { result ≡ remask_no fault }
 {
@@ -61,7 +61,7 @@ pub fn remask_no(fault: RemaskFault) -> No
     }
 }
 
-/// What a fault of a sample is answered with.
+/// Returns the refusal for a fault of a sample.
 pub fn raw_no(fault: RawFault) -> No
     ensures { result ≡ raw_no fault }
 {
@@ -72,21 +72,21 @@ pub fn raw_no(fault: RawFault) -> No
     }
 }
 
-/// What is answered where the events of a device have a holder.
+/// Returns the refusal if the events of a device already have a holder.
 pub fn held_no(_held: Held) -> No
     ensures { result ≡ held_no _held }
 {
     No::Errno(Errno::EBUSY)
 }
 
-/// What one is answered who is not their holder.
+/// Returns the refusal for a connection that isn't the holder of the events.
 pub fn holder_no(_none: NotHolder) -> No
     ensures { result ≡ holder_no _none }
 {
     No::Errno(Errno::EBADF)
 }
 
-/// What became of a take.
+/// The outcome of a take.
 #[derive(Clone, Copy, Debug, PartialEq, Eq)]
 pub enum Took {
     /// A scan was taken.
@@ -97,20 +97,20 @@ pub enum Took {
     Gone,
 }
 
-/// The numbers of a queue.
+/// The counts of a queue.
 #[derive(Clone, Copy, Debug, PartialEq, Eq)]
 pub struct Counts {
-    /// How many scans wait.
+    /// The number of scans that wait.
     pub waiting: u64,
-    /// How many were lost because the queue was full.
+    /// The number of scans lost because the queue was full.
     pub lost: u64,
 }
 
 /// The devices, as one connection uses them. Devices and triggers are known by their numbers, from 0 on.
 ///
-/// An `Iio` has three meanings: `kept`, which no call changes, with `front`, what a session looks at of it; `told`, the state
-/// of the devices, where it tells it; and `seen`, what a seat is by its own value. Where it tells its state each answer is the
-/// one of that state.
+/// An `Iio` has three meanings: `kept`, which no call changes, with `front`, the part of it that a session looks at; `told`,
+/// the state of the devices, if the `Iio` tells it; and `seen`, what a seat is by its own value. If the state is told, each
+/// answer is the one that follows from that state.
 pub trait Iio {
     ghost use Rattle.iio_attr.specs.Attributes.{is_writable, row_of};
     ghost use Rattle.iio_text.specs.Fixed.{IsFixed};
@@ -136,7 +136,7 @@ pub trait Iio {
 
     ghost seen: { Self.Seat → SeatRecord };
 
-    /// The number of the device of that name.
+    /// Returns the number of the device of that name.
     fn find(&self, device: &[u8]) -> Option<u32>
         ensures value { result ≡ find_device (front (kept self.now)) device.now }
         ensures within { IfSome result (λ dev. dev < length (front (kept self.now)).devices) };
@@ -161,9 +161,9 @@ pub trait Iio {
         requires { dev < length (front (kept self.now)).devices }
         ensures { IfSome (told self.now) (λ m. result ≡ is_plugged m dev) };
 
-    /// A member more at a device that is no output device, with a queue for `capacity` scans. `ENODEV` comes where it is
-    /// unplugged, then `EINVAL` where it has no trigger, `EINVAL` where no listed mask serves all members, `ENOSPC` where
-    /// there is no place. An averaging device's first member joins its base besides, where these are looked at.
+    /// Opens a new member, with a queue for `capacity` scans, at a device that isn't an output device. `ENODEV` if the device
+    /// is unplugged, then `EINVAL` if it has no trigger, `EINVAL` if no listed mask serves all members, `ENOSPC` if there is no
+    /// place. An averaging device's first member also joins its base, and these conditions are checked there.
     fn open(&mut self, dev: u32, mask: Mask, capacity: u32) -> Result<Self::Seat, No>
         requires may_open { MayOpen (front (kept self.old)) dev mask.bits capacity }
         requires read { is_output (kind_at (front (kept self.old)) dev) ≡ false }
@@ -172,9 +172,9 @@ pub trait Iio {
         ensures told { IfSome (told self.old)
             (λ m. Answers (open_of (front (kept self.old)) m dev mask.bits capacity false) m (number_by seen result) (told self.new)) };
 
-    /// The writer of an output device, with a queue for `capacity` scans; those of a cyclic one come round again. `ENODEV`
-    /// comes where the device is unplugged, then `EBUSY` where it has a writer, `EINVAL` where it has no trigger, `ENOSPC`
-    /// where there is no place.
+    /// Opens the writer of an output device, with a queue for `capacity` scans; the scans of a cyclic writer are repeated.
+    /// `ENODEV` if the device is unplugged, then `EBUSY` if it has a writer, `EINVAL` if it has no trigger, `ENOSPC` if there
+    /// is no place.
     fn open_out(
         &mut self,
         dev: u32,
@@ -189,9 +189,9 @@ pub trait Iio {
         ensures told { IfSome (told self.old)
             (λ m. Answers (open_of (front (kept self.old)) m dev mask.bits capacity cyclic) m (number_by seen result) (told self.new)) };
 
-    /// Writes scans to an output device: how many of the bytes were taken, the first ones. `ENODEV` comes where the device is
-    /// unplugged, then `EINVAL` where they aren't whole scans, or not as many as can be a cycle, `EBUSY` where a cyclic writer
-    /// has written its cycle, `EAGAIN` where the queue is full.
+    /// Writes scans to an output device and returns how many of the bytes were taken; these are the first ones. `ENODEV` if the
+    /// device is unplugged, then `EINVAL` if the bytes aren't whole scans or aren't as many as can be a cycle, `EBUSY` if a
+    /// cyclic writer has written its cycle, `EAGAIN` if the queue is full.
     fn write_scans(&mut self, dev: u32, seat: &mut Self::Seat, bytes: &[u8]) -> Result<u32, No>
         requires dev { dev < length (front (kept self.old)).devices }
         requires written { is_output (kind_at (front (kept self.old)) dev) ≡ true }
@@ -202,10 +202,10 @@ pub trait Iio {
         ensures told { IfSome (told self.old)
             (λ m. Answers (write_scans_of (front (kept self.old)) m dev (seat_id (seen seat.old)) bytes.now) m result (told self.new)) };
 
-    /// The member of an input device begins anew under another mask: how many scans waited, which are gone. The seat keeps
-    /// its capacity, and what it tells begins anew. `ENODEV` comes where the device is unplugged, then `EBADF` where the
-    /// member isn't there, then `EINVAL` where no listed mask serves the other members and this one; want of memory comes
-    /// last. A refusal changes nothing.
+    /// Puts the member of an input device under another mask with an empty queue, and returns the number of scans that waited,
+    /// which are gone. The seat keeps its capacity, and its trace begins anew. `ENODEV` if the device is unplugged, then
+    /// `EBADF` if the member isn't there, then `EINVAL` if no listed mask serves the other members and this one; running out of
+    /// memory comes last. A refusal changes nothing.
     fn remask(&mut self, dev: u32, seat: &mut Self::Seat, mask: Mask) -> Result<u64, No>
         requires may_open { MayOpen (front (kept self.old)) dev mask.bits (seen seat.old).capacity }
         requires input { is_input (kind_at (front (kept self.old)) dev) ≡ true }
@@ -215,14 +215,15 @@ pub trait Iio {
         ensures told { IfSome (told self.old)
             (λ m. Answers (remask_of (front (kept self.old)) m dev (seat_id (seen seat.old)) mask.bits (seen seat.old).capacity) m result (told self.new)) };
 
-    /// The member leaves; scans that wait are gone with it. An averaging device's last one leaves its base besides.
+    /// Removes the member; the scans that wait are lost with it. When an averaging device's last member leaves, the device
+    /// leaves its base too.
     fn close(&mut self, dev: u32, seat: Self::Seat)
         requires dev { dev < length (front (kept self.old)).devices }
         requires owned { IsOfDevice (front (kept self.old)) dev (seen seat) }
         ensures kept { kept self.new ≡ kept self.old }
         ensures told { IfSome (told self.old) (λ m. told self.new ≡ Some (machine_after_close (front (kept self.old)) m dev (seen seat).number)) };
 
-    /// Takes the oldest scan that waits, at no output device, into `out`, which has its size.
+    /// Takes the oldest scan that waits, at a device that isn't an output device, into `out`, which has the size of a scan.
     fn take(&mut self, dev: u32, seat: &mut Self::Seat, out: &mut [u8]) -> Took
         requires dev { dev < length (front (kept self.old)).devices }
         requires read { is_output (kind_at (front (kept self.old)) dev) ≡ false }
@@ -232,8 +233,8 @@ pub trait Iio {
         ensures seat { seen seat.new ≡ record (seen seat.old) { trace = option_map (after_take result out.new) (seen seat.old).trace } }
         ensures told { IfSome (told self.old) (λ m. Takes m dev (seat_id (seen seat.old)) result out.new (told self.new)) };
 
-    /// Takes the oldest scans that wait, at no output device, at most `most`, and appends their bytes to `out`, which has room
-    /// for `most` scans. `Scan` comes where there was one at least.
+    /// Takes the oldest scans that wait, at most `most`, at a device that isn't an output device, and appends their bytes to
+    /// `out`, which has room for `most` scans. Returns `Scan` exactly if at least one was taken.
     fn take_scans(&mut self, dev: u32, seat: &mut Self::Seat, most: u32, out: &mut Vec<u8>) -> Took
         requires dev { dev < length (front (kept self.old)).devices }
         requires read { is_output (kind_at (front (kept self.old)) dev) ≡ false }
@@ -245,7 +246,7 @@ pub trait Iio {
         ensures most { length out.new.items ≤ length out.old.items + most * (seen seat.old).size }
         ensures room { vec_capacity out.old ≤ vec_capacity out.new };
 
-    /// The numbers of the seat's queue; at an output device `lost` is how often none waited there for the device.
+    /// The counts of the seat's queue; at an output device `lost` is how often the device found no scan waiting there.
     fn counts(&mut self, dev: u32, seat: &mut Self::Seat) -> Counts
         requires dev { dev < length (front (kept self.old)).devices }
         requires owned { IsOfDevice (front (kept self.old)) dev (seen seat.old) }
@@ -255,15 +256,15 @@ pub trait Iio {
         ensures lost { IfSome (told self.old) (λ m. result.lost ≡ lost_of m dev (seat_id (seen seat.old))) }
         ensures told { IfSome (told self.old) (λ m. told self.new ≡ Some m) };
 
-    /// The value of an attribute that the device has, or its channel of that number. `ENODEV` comes where it is unplugged;
-    /// for `raw` of an input device then `EBUSY` where it has a member, and `EIO` where the sensor's ask failed.
+    /// Returns the value of an attribute that the device, or its channel of that number, has. `ENODEV` if the device is
+    /// unplugged; for `raw` of an input device then `EBUSY` if it has a member, and `EIO` if the sensor's ask failed.
     fn read_attr(&mut self, dev: u32, channel: Option<u32>, attr: Attr) -> Result<Value, No>
         requires dev { dev < length (front (kept self.old)).devices }
         requires may_read { MayRead (front (kept self.old)) dev channel attr }
         ensures kept { kept self.new ≡ kept self.old }
         ensures told { IfSome (told self.old) (λ m. Answers (read_attr_of (front (kept self.old)) m dev channel attr) m result (told self.new)) };
 
-    /// Writes an attribute that can be written, with a value that it takes. `ENODEV` comes where the device is unplugged.
+    /// Writes an attribute that can be written, with a value that it takes. `ENODEV` if the device is unplugged.
     fn write_attr(
         &mut self,
         dev: u32,
@@ -276,22 +277,22 @@ pub trait Iio {
         ensures kept { kept self.new ≡ kept self.old }
         ensures told { IfSome (told self.old) (λ m. Answers (write_attr_of m dev channel attr value) m result (told self.new)) };
 
-    /// The number of the device's trigger; of an averaging device it is its base's.
+    /// Returns the number of the device's trigger; the trigger of an averaging device is that of its base.
     fn trigger(&self, dev: u32) -> Option<u32>
         requires { dev < length (front (kept self.now)).devices }
         ensures { IfSome (told self.now) (λ m. result ≡ trigger_of (front (kept self.now)) m dev) };
 
-    /// The name of a trigger; empty where none has that number.
+    /// Returns the name of a trigger; empty if no trigger has that number.
     fn trigger_name(&self, trigger: u32) -> &[u8]
         ensures { result.now ≡ trigger_name (front (kept self.now)) trigger };
 
-    /// The number of the trigger of that name.
+    /// Returns the number of the trigger of that name.
     fn find_trigger(&self, name: &[u8]) -> Option<u32>
         ensures value { result ≡ find_trigger (front (kept self.now)) name.now }
         ensures within { IfSome result (λ trigger. trigger < length (front (kept self.now)).triggers) };
 
-    /// Gives a device that is no averaging device another trigger, or none. `ENODEV` comes where it is unplugged, then `EBUSY`
-    /// where it has a member.
+    /// Gives a device that isn't an averaging device another trigger, or none. `ENODEV` if it is unplugged, then `EBUSY` if it
+    /// has a member.
     fn set_trigger(&mut self, dev: u32, trigger: Option<u32>) -> Result<(), No>
         requires dev { dev < length (front (kept self.old)).devices }
         requires own { is_average (kind_at (front (kept self.old)) dev) ≡ false }
@@ -299,28 +300,28 @@ pub trait Iio {
         ensures kept { kept self.new ≡ kept self.old }
         ensures told { IfSome (told self.old) (λ m. Answers (set_trigger_of m dev trigger) m result (told self.new)) };
 
-    /// The context's text.
+    /// The text of the context.
     fn context(&self) -> &[u8]
         ensures { result.now ≡ (front (kept self.now)).context };
 
-    /// The events of an input device go to connection `who` from now on. `ENODEV` comes where it is unplugged, then `EBUSY`
-    /// where they go to somebody.
+    /// Makes connection `who` the holder of the events of an input device. `ENODEV` if the device is unplugged, then `EBUSY` if
+    /// its events have a holder.
     fn ev_open(&mut self, dev: u32, who: u32) -> Result<(), No>
         requires dev { dev < length (front (kept self.old)).devices }
         requires input { is_input (kind_at (front (kept self.old)) dev) ≡ true }
         ensures kept { kept self.new ≡ kept self.old }
         ensures told { IfSome (told self.old) (λ m. Answers (ev_open_of m dev who) m result (told self.new)) };
 
-    /// Takes the oldest event. `ENODEV` comes where the device is unplugged, then `EBADF` where its events don't go to
-    /// connection `who`.
+    /// Takes the oldest event. `ENODEV` if the device is unplugged, then `EBADF` if connection `who` isn't the holder of its
+    /// events.
     fn ev_read(&mut self, dev: u32, who: u32) -> Result<Option<EventData>, No>
         requires dev { dev < length (front (kept self.old)).devices }
         requires input { is_input (kind_at (front (kept self.old)) dev) ≡ true }
         ensures kept { kept self.new ≡ kept self.old }
         ensures told { IfSome (told self.old) (λ m. Answers (ev_read_of m dev who) m result (told self.new)) };
 
-    /// The device's events go to nobody, and those that wait are gone; also where it is unplugged. `EBADF` comes where they
-    /// don't go to connection `who`. It takes no memory.
+    /// Ends the holding of the device's events by connection `who`; events that wait are gone. It also works if the device is
+    /// unplugged. `EBADF` if connection `who` isn't the holder. It takes no memory.
     fn ev_close(&mut self, dev: u32, who: u32) -> Result<(), No>
         requires dev { dev < length (front (kept self.old)).devices }
         requires input { is_input (kind_at (front (kept self.old)) dev) ≡ true }
@@ -331,11 +332,11 @@ pub trait Iio {
 
 /// Devices at which a connection can wait for a scan.
 pub trait Bells: Iio {
-    /// How often something came for a device's members.
+    /// Returns how often something came for the members of a device.
     fn bell(&self, dev: u32) -> u64
         requires { dev < length (Self.front (Self.kept self.now)).devices };
 
-    /// Waits until the number isn't the one that was seen.
+    /// Waits until that number differs from `seen`.
     fn wait(&self, dev: u32, seen: u64)
         requires { dev < length (Self.front (Self.kept self.now)).devices };
 }

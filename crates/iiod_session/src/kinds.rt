@@ -1,4 +1,4 @@
-//! The kinds of devices, as an `Iio` tells them.
+//! The kinds of devices, as an `Iio` reports them.
 
 ghost use Rattle.std.specs.Prelude.{◌≡◌, ◌⊎◌, ◌<◌, length, false, IfSome};
 ghost use Rattle.iio_text.specs.declared.errors.Errno.{Errno};
@@ -13,18 +13,18 @@ ghost use Rattle.iiod_session.specs.Performs.{Comes};
 use crate::iio::Iio;
 use iio_text::Errno;
 
-/// What kind of device it is.
+/// The kind of a device.
 #[derive(Clone, Copy, Debug, PartialEq, Eq)]
 pub(crate) enum Kind {
     /// Its sensor is asked.
     Input,
     /// It is given what its one member writes.
     Output,
-    /// It makes means of the captures of another one.
+    /// It makes means of the captures of another device.
     Average,
 }
 
-/// The kind of a device.
+/// Returns the kind of a device.
 pub(crate) fn kind_of<I: Iio>(iio: &I, dev: u32) -> Kind
     requires { dev < length (I.front (I.kept iio.now)).devices }
     ensures { result ≡ kind_code (kind_at (I.front (I.kept iio.now)) dev) }
@@ -46,7 +46,7 @@ pub(crate) fn is_input<I: Iio>(iio: &I, dev: u32) -> bool
     matches!(kind_of(iio, dev), Kind::Input)
 }
 
-/// Why a command is refused at a device of a kind that doesn't know it.
+/// Returns the error for a command that the kind of the device doesn't have.
 pub(crate) fn unknown_refusal<I: Iio>(iio: &I, dev: u32) -> Errno
     requires { dev < length (I.front (I.kept iio.now)).devices }
     ensures one { (result ≡ Errno.ENODEV) ⊎ (result ≡ Errno.ENOSYS) }

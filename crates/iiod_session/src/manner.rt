@@ -1,15 +1,15 @@
 //! How a connection is served.
 
-/// What a session does where it can't answer at once.
+/// What a session does if it can't answer at once.
 #[derive(Clone, Copy, Debug, PartialEq, Eq)]
 pub enum Manner {
-    /// Each command is answered: a READBUF that finds nothing with `EAGAIN`. Want of memory ends the session.
+    /// Each command is answered; a READBUF that finds nothing is answered by `EAGAIN`. Running out of memory ends the session.
     Script,
-    /// A READBUF that finds nothing waits. Want of memory in a command is answered with -12.
+    /// A READBUF that finds nothing waits. If memory runs out in a command, the command is answered by -12.
     Server,
 }
 
-/// What became of a command.
+/// The outcome of a command.
 #[derive(Clone, Copy, Debug, PartialEq, Eq)]
 pub(crate) enum Progress {
     /// It was answered.
@@ -21,7 +21,7 @@ pub(crate) enum Progress {
 /// How a connection stands after a feed.
 #[derive(Clone, Copy, Debug, PartialEq, Eq)]
 pub enum Going {
-    /// Every command that is whole was answered.
+    /// Every whole command was answered.
     On,
     /// A READBUF found nothing at the device of that number. The next feed tries it again.
     Waits(u32),

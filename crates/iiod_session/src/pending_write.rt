@@ -1,4 +1,4 @@
-//! The command that isn't done: a WRITE or WRITEBUF whose payload comes, or a READBUF that waits.
+//! The command that isn't done yet: a WRITE or WRITEBUF whose payload is being received, or a READBUF that waits.
 
 ghost use Rattle.std.specs.Prelude.{◌≡◌, true, false, option_map, OnOk};
 ghost use Rattle.iiod_grammar.specs.View.{place_view, target_view};
@@ -10,7 +10,7 @@ use iiod_grammar::Place;
 use std::alloc::Global;
 use std::marker::Model;
 
-/// Where an attribute stands, but for the ID of its channel.
+/// Where an attribute stands, without the ID of its channel.
 #[derive(Clone, Copy)]
 pub(crate) enum PlaceKind {
     Device,
@@ -20,19 +20,19 @@ pub(crate) enum PlaceKind {
     Output,
 }
 
-/// What the WRITE or WRITEBUF whose payload comes names, or the READBUF that waits. Its words are kept in rooms that serve one
-/// command after another.
+/// The words of the WRITE or WRITEBUF whose payload is being received, or of the READBUF that waits. They are kept in vectors
+/// that are reused for one command after another.
 #[derive(Drop)]
 pub(crate) struct PendingWrite {
     device: Word,
-    // None where the words name nothing.
+    // None if the words name nothing.
     kind: Option<PlaceKind>,
     channel: Word,
     has_attribute: bool,
     attribute: Word,
     // Whether it is a WRITEBUF.
     is_scans: bool,
-    // The bytes that a READBUF asks for.
+    // The number of bytes that a READBUF asks for.
     asked: u32,
 }
 
@@ -49,7 +49,7 @@ impl Model for PendingWrite {
     } };
 }
 
-// A place without the ID of its channel, and that ID, which is empty where it has none.
+// Splits a place into its kind and the ID of its channel, which is empty if it has none.
 fn split_place<'a>(place: Place<'a>) -> (PlaceKind, &'a [u8])
     ensures { place_by result.0 result.1.now ≡ place_view place.entry }
 {
@@ -62,7 +62,7 @@ fn split_place<'a>(place: Place<'a>) -> (PlaceKind, &'a [u8])
     }
 }
 
-// The place of a kind, at a channel where it has one.
+// Makes the place of that kind, at the channel if the kind has one.
 fn join_place(kind: PlaceKind, channel: &[u8]) -> Place<'_>
     ensures { place_view result ≡ place_by kind channel.now }
 {
@@ -76,7 +76,7 @@ fn join_place(kind: PlaceKind, channel: &[u8]) -> Place<'_>
 }
 
 impl PendingWrite {
-    /// No command yet.
+    /// Creates the state in which no command is kept.
     pub(crate) fn new(alloc: Global) -> PendingWrite {
         PendingWrite {
             device: Word::new(alloc),
@@ -89,7 +89,7 @@ impl PendingWrite {
         }
     }
 
-    /// Keeps what a WRITE names.
+    /// Keeps the words of a WRITE.
     pub(crate) fn keep(
         &mut self,
         device: &[u8],
@@ -111,7 +111,7 @@ impl PendingWrite {
         self.attribute.set(attribute.unwrap_or(b""))
     }
 
-    /// Keeps the device that a WRITEBUF names.
+    /// Keeps the device name of a WRITEBUF.
     pub(crate) fn keep_scans(&mut self, device: &[u8]) -> Result<(), Mem>
         ensures { OnOk result ((self.new.device ≡ device.now) × (self.new.is_scans ≡ true)) }
     {
@@ -120,14 +120,14 @@ impl PendingWrite {
         Ok(())
     }
 
-    /// Whether it is a WRITEBUF.
+    /// Whether the command is a WRITEBUF.
     pub(crate) fn is_scans(&self) -> bool
         ensures { result ≡ self.now.is_scans }
     {
         self.is_scans
     }
 
-    /// Keeps what a READBUF asks for.
+    /// Keeps the device name of a READBUF and the number of bytes that it asks for.
     pub(crate) fn keep_read(&mut self, device: &[u8], asked: u32) -> Result<(), Mem>
         ensures { OnOk result ((self.new.device ≡ device.now) × (self.new.asked ≡ asked)) }
     {
@@ -136,21 +136,21 @@ impl PendingWrite {
         Ok(())
     }
 
-    /// How many bytes a READBUF asks for.
+    /// Returns the number of bytes that a READBUF asks for.
     pub(crate) fn asked(&self) -> u32
         ensures { result ≡ self.now.asked }
     {
         self.asked
     }
 
-    /// The device's name.
+    /// The name of the device.
     pub(crate) fn device(&self) -> &[u8]
         ensures { result.now ≡ self.now.device }
     {
         self.device.bytes()
     }
 
-    /// What is to be written.
+    /// The attribute that is to be written, with its place.
     pub(crate) fn target(&self) -> Option<(Place<'_>, Option<&[u8]>)>
         ensures { option_map target_view result ≡ self.now.target }
     {

@@ -1,4 +1,4 @@
-//! One item of a connection.
+//! Carries out one item of a connection.
 
 ghost use Rattle.std.specs.Prelude.{◌≡◌, ◌<◌, length, option_map, vec_capacity, Ok, Err, IfOk, IfSome, OnOk};
 ghost use Rattle.iiod_grammar.specs.Stream.{Said, Streamed, Written};
@@ -23,7 +23,7 @@ use iio_text::Errno;
 use iiod_grammar::{Command, Place, Refused};
 use std::alloc::Global;
 
-// A command at the device of that number, which it names, or at none.
+// Carries out a command at the device of that number, the one that it names, or at none.
 #[inline(always)]
 fn at_device<I: Iio>(
     alloc: Global,
@@ -76,7 +76,7 @@ fn at_device<I: Iio>(
     }
 }
 
-// A command that is answered at once: not EXIT, WRITE, WRITEBUF or READBUF.
+// Carries out a command that is answered at once: not EXIT, WRITE, WRITEBUF or READBUF.
 #[inline(always)]
 fn answer_to<I: Iio>(
     alloc: Global,
@@ -114,9 +114,9 @@ fn answer_to<I: Iio>(
     }
 }
 
-/// A command that is answered at once, not EXIT, WRITE, WRITEBUF or READBUF, is performed, and answered at the end of `out`.
+/// Performs a command that is answered at once (not EXIT, WRITE, WRITEBUF or READBUF), and appends its answer to `out`.
 ///
-/// A server answers want of memory, as long as there is the room for a short answer; a script ends with `Mem`.
+/// If memory runs out, a server answers so, provided that there is room for a short answer; a script ends with `Mem`.
 #[inline(always)]
 pub(crate) fn perform<I: Iio>(
     alloc: Global,
@@ -142,7 +142,8 @@ pub(crate) fn perform<I: Iio>(
     push_answer(manner, iio, answer, out)
 }
 
-/// A line that is no command is answered at the end of `out`, as by [`perform`]: by `EINVAL`, but for a line without a word.
+/// Answers a line that is no command: appends `EINVAL` to `out`, or nothing for a line without a word. If memory runs out it
+/// does what [`perform`] does.
 pub(crate) fn perform_refused<I: Iio>(
     manner: Manner,
     client: &Client<I::Seat>,
@@ -163,7 +164,7 @@ pub(crate) fn perform_refused<I: Iio>(
     }
 }
 
-/// A WRITE is performed with its payload, and answered at the end of `out`, as by [`perform`].
+/// Performs a WRITE with its payload, and appends its answer to `out`. If memory runs out it does what [`perform`] does.
 pub(crate) fn perform_written<I: Iio>(
     _alloc: Global,
     manner: Manner,
@@ -192,7 +193,7 @@ pub(crate) fn perform_written<I: Iio>(
     Ok(Progress::Done)
 }
 
-/// A WRITEBUF is performed with its payload, and answered at the end of `out`, as by [`perform`].
+/// Performs a WRITEBUF with its payload, and appends its answer to `out`. If memory runs out it does what [`perform`] does.
 pub(crate) fn perform_streamed<I: Iio>(
     manner: Manner,
     client: &mut Client<I::Seat>,

@@ -12,14 +12,14 @@ use iio_layout::scan_size;
 use iio_mask::Mask;
 use iiod_reply::{block_closing, block_head, block_room};
 
-// The most bytes of a block's head where fewer than 2^32 bytes come: the count, the mask, and an LF after each.
+// The most bytes of a block's head if fewer than 2^32 bytes follow: the count, the mask, and an LF after each.
 const BLOCK_HEAD: usize = 10 + 1 + 16 + 1;
 
-// The most bytes that a block has besides its scans: the head, the closing 0, and an LF after it.
+// The most bytes of a block besides its scans: the head, the closing 0, and an LF after it.
 const BLOCK_FRAME: usize = BLOCK_HEAD + 1 + 1;
 
-// The block of up to `want` scans, at least one. They are taken after room for the block's head, which is filled only once some
-// came. `out` has space for all of it.
+// Appends the block of up to `want` scans, at least one. The scans are taken into the place after the room for the block's
+// head, which is filled in only if some came. `out` has space for all of it.
 fn read_into<I: Iio>(
     iio: &mut I,
     dev: u32,
@@ -61,7 +61,7 @@ fn read_into<I: Iio>(
     took
 }
 
-/// As [`read_scans`], at a seat whose scans have `size` bytes.
+/// Does what [`read_scans`] does, at a seat whose scans have `size` bytes.
 pub(crate) fn read_sized<I: Iio>(
     iio: &mut I,
     dev: u32,
@@ -88,12 +88,12 @@ pub(crate) fn read_sized<I: Iio>(
     Ok(read_into(iio, dev, seat, mask, size, want, asked, out))
 }
 
-/// One READBUF of `asked` bytes at a seat that `open`, not `open_out`, gave for this mask and capacity: the block of as many
-/// scans as are asked for and wait, as bytes appended to `out`. The room for it is taken first, and of the devices it asks for
-/// nothing but their shapes and these scans.
+/// Carries out one READBUF of `asked` bytes at a seat that `open`, not `open_out`, returned for this mask and capacity: appends
+/// to `out` the block of as many scans as are asked for and wait. The room for the block is taken first, and nothing is asked
+/// of the devices but their shapes and these scans.
 ///
-/// `Scan`: at least one scan was taken. `Empty` and `Gone` are the first take's answer, and `out` is unchanged. `Mem`: no
-/// take was made, and `out` is unchanged.
+/// `Scan` if at least one scan was taken. `Empty` and `Gone` are the answer of the first take, and `out` is unchanged. After
+/// `Mem` no take was made, and `out` is unchanged.
 pub fn read_scans<I: Iio>(
     iio: &mut I,
     dev: u32,

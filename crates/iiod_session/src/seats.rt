@@ -1,4 +1,4 @@
-//! A connection's seats: OPEN, CLOSE, REMASK, READBUF and WRITEBUF at the device of a number.
+//! A connection's seats: OPEN, CLOSE, REMASK, READBUF and WRITEBUF at the device of that number.
 
 ghost use Rattle.std.specs.Prelude.{◌≡◌, ◌<◌, ◌≤◌, ◌&&◌, not, true, false, length, IfSome, IfOk, None, Err, vec_capacity};
 ghost use Rattle.iiod_session.specs.Acts.{close_at, joined_at, open_at, remask_at, write_at_place};
@@ -30,7 +30,7 @@ pub(crate) fn place<S>(held: &[OpenSeat<S>], dev: u32) -> Option<usize>
     held.iter().position(|h| h.dev == dev)
 }
 
-// How many buffers an OPEN of a device has.
+// Returns the buffers count for an OPEN of a device.
 fn buffers_of(buffers: &[BuffersCount], dev: u32) -> u32
     ensures { result ≡ buffers_of dev buffers.now }
 {
@@ -42,7 +42,7 @@ fn buffers_of(buffers: &[BuffersCount], dev: u32) -> u32
     FIRST_BUFFERS
 }
 
-// A seat of a device, whichever kind it is of.
+// Opens a seat at a device of any kind.
 fn open_seat<I: Iio>(
     iio: &mut I,
     dev: u32,
@@ -64,7 +64,7 @@ fn open_seat<I: Iio>(
     }
 }
 
-// The last part of OPEN: a seat more. The room for it is taken first.
+// The last part of OPEN: opens the seat and adds it. The room for it is taken first.
 fn join<I: Iio>(
     client: &mut Client<I::Seat>,
     iio: &mut I,
@@ -99,7 +99,7 @@ fn join<I: Iio>(
     Ok(())
 }
 
-/// OPEN. It is refused as by [`wanted_by`], then as by [`Iio::open`], or [`Iio::open_out`] at an output device.
+/// OPEN. The refusals are those of [`wanted_by`], then those of [`Iio::open`], or of [`Iio::open_out`] at an output device.
 pub(crate) fn open_at<I: Iio>(
     client: &mut Client<I::Seat>,
     iio: &mut I,
@@ -134,7 +134,7 @@ pub(crate) fn open_at<I: Iio>(
     join(client, iio, dev, wanted, cyclic)
 }
 
-/// CLOSE. `EBADF` comes where the connection has no seat at the device.
+/// CLOSE. `EBADF` if the connection has no seat at the device.
 pub(crate) fn close_at<I: Iio>(
     client: &mut Client<I::Seat>,
     iio: &mut I,
@@ -158,7 +158,7 @@ pub(crate) fn close_at<I: Iio>(
     Ok(())
 }
 
-// REMASK at a seat: its mask is exchanged, and what its queue held is counted as discarded.
+// REMASK at a seat: its mask is replaced, and the scans that its queue held are counted as discarded.
 fn remask_held<I: Iio>(iio: &mut I, h: &mut OpenSeat<I::Seat>, text: &[u8]) -> Result<(), No>
     requires held { IsHeld I.seen (I.front (I.kept iio.old)) h.old }
     requires input { is_input (kind_at (I.front (I.kept iio.old)) h.old.dev) ≡ true }
@@ -185,8 +185,8 @@ fn remask_held<I: Iio>(iio: &mut I, h: &mut OpenSeat<I::Seat>, text: &[u8]) -> R
     }
 }
 
-/// REMASK at an input device. `ENODEV` comes where the device is unplugged, `EBADF` where the connection has no seat at it;
-/// then it is refused as by [`mask_wanted_by`], and then as by [`Iio::remask`]. A refusal changes nothing.
+/// REMASK at an input device. `ENODEV` if the device is unplugged, `EBADF` if the connection has no seat at it, then the
+/// refusals of [`mask_wanted_by`], then those of [`Iio::remask`]. A refusal changes nothing.
 pub(crate) fn remask_at<I: Iio>(
     client: &mut Client<I::Seat>,
     iio: &mut I,
@@ -243,7 +243,7 @@ fn read_held<I: Iio>(
     )
 }
 
-/// READBUF at a device that is no output device. `EBADF` is answered where the connection has no seat at the device.
+/// READBUF at a device that isn't an output device. It is answered by `EBADF` if the connection has no seat at the device.
 pub(crate) fn read_at<I: Iio>(
     client: &mut Client<I::Seat>,
     iio: &mut I,
@@ -283,8 +283,8 @@ fn write_held<I: Iio>(iio: &mut I, h: &mut OpenSeat<I::Seat>, payload: &[u8]) ->
     iio.write_scans(h.dev, &mut h.seat, payload)
 }
 
-/// WRITEBUF at an output device: how many of the bytes were taken. `EBADF` comes where the connection has no seat at it; then
-/// it is refused as by [`Iio::write_scans`].
+/// WRITEBUF at an output device; returns how many of the bytes were taken. `EBADF` if the connection has no seat at it, then
+/// the refusals of [`Iio::write_scans`].
 pub(crate) fn write_at<I: Iio>(
     client: &mut Client<I::Seat>,
     iio: &mut I,

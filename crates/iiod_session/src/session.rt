@@ -1,4 +1,4 @@
-//! A connection: what it sent, what it is answered, and what it has of the devices.
+//! A connection: what it sent, what it is answered, and what it has open at the devices.
 
 ghost use Rattle.std.specs.Prelude.{◌≡◌, ◌↔◌, [], IfOk, IfSome, IsTrue, OnErr, Some, is_some};
 ghost use Rattle.iiod_grammar.specs.Scans.{scan_on};
@@ -27,14 +27,14 @@ use std::marker::Model;
 
 /// A connection of libiio 0.25's iiod, over devices that are lent to each call; `S` is the type of its seats there.
 ///
-/// It is seen as what it has of the devices and as its stream: the items that are whole and not answered yet, and where the
-/// stream stands after all bytes that came. It can be dropped where a seat can; else [`Session::end`] spends it.
+/// Contracts see what it has open at the devices and its stream: the items that are whole and not answered yet, and where the
+/// stream stands after all bytes received. It can be dropped if a seat can; otherwise [`Session::end`] consumes it.
 #[derive(Drop)]
 pub struct Session<S> {
     manner: Manner,
     client: Client<S>,
     lines: Lines,
-    // The WRITE or WRITEBUF whose payload comes, or the READBUF that waits.
+    // The WRITE or WRITEBUF whose payload is being received, or the READBUF that waits.
     pending: PendingWrite,
     going: Going,
     // The bytes after a READBUF that waits.
@@ -57,8 +57,8 @@ impl<S> Model for Session<S> {
 }
 
 impl<S> Session<S> {
-    /// Connection number `who`, which has nothing of the devices yet and sent nothing. The number is the one by which the
-    /// devices know whose their events are.
+    /// Creates the session of connection number `who`, which has nothing open at the devices and has sent nothing. The devices
+    /// know by this number who holds their events.
     pub fn new(alloc: Global, who: u32, manner: Manner) -> Result<Session<S>, Mem>
         ensures { IfOk result (IsFresh who manner) }
     {
@@ -78,17 +78,17 @@ impl<S> Session<S> {
         })
     }
 
-    /// Carries out the items that these bytes make whole, one after another, and appends the answer of each to `out`, in
-    /// whatever pieces the stream comes. Answers how the connection stands then.
+    /// Carries out the items that these bytes complete, one after another, and appends the answer to each to `out`; how the
+    /// stream is cut into pieces doesn't matter. Returns how the connection then stands.
     ///
-    /// `Ended` comes with EXIT, which has no answer, with a line that is too long, answered -7, and with a payload that is
-    /// too large, answered -27: all seats are closed and all holdings of events have ended; later bytes mean nothing. In
-    /// manner Server `Waits` comes where a READBUF for at least one scan finds nothing at a device that is plugged: it isn't
-    /// answered, and the next feed tries it again, before further bytes. In manner Script it is answered -11.
+    /// `Ended` is returned after EXIT, which has no answer, after a line that is too long, answered by -7, and after a payload
+    /// that is too large, answered by -27: all seats are closed and all holdings of events have ended; later bytes mean
+    /// nothing. In manner Server `Waits` is returned if a READBUF for at least one scan finds nothing at a device that is
+    /// plugged: it isn't answered, and the next feed tries it again, before further bytes. In manner Script the answer is -11.
     ///
     /// After `Mem` the session has ended too: all seats are closed, and no holding of events is left in the session. In manner
-    /// Server it comes only where there is no room for a short answer or for bytes that are kept, of which no clause speaks: want
-    /// of memory in a command is answered -12 and changes nothing.
+    /// Server `Mem` is returned only if there is no room for a short answer or for bytes that are kept, which no clause says:
+    /// if memory runs out in a command, the command is answered by -12 and changes nothing.
     pub fn feed<I: Iio<Seat = S>>(
         &mut self,
         alloc: Global,
@@ -105,15 +105,15 @@ impl<S> Session<S> {
         ensures manner { self.new.manner ≡ self.old.manner }
         ensures gone { OnErr result ((self.new.client.held.items ≡ []) × (self.new.client.holdings.items ≡ []) × (self.new.stream ≡ no_item AtEnd)) }
 
-        // In a script, over devices that tell their state, all of it is determined.
+        // In a script, over devices that tell their state, all of this is determined.
         ensures script { IfOk result (λ going. FeedTells self.old.manner (I.front (I.kept iio.old)) (state_of I.seen (I.told iio.old) self.old.client)
             (scan_on self.old.stream bytes.now).items out.old.items out.new.items (state_of I.seen (I.told iio.new) self.new.client)) }
     {
         self.feed_watched(alloc, iio, &mut Unwatched, bytes, out)
     }
 
-    /// Does what [`Session::feed`] does, and tells `watch` each item that it carries out, once, in order, with the devices as
-    /// they stand just before the item. A READBUF that waits was told when it came, and isn't told again.
+    /// Does what [`Session::feed`] does, and tells `watch` each item that it carries out, once and in order, with the devices
+    /// as they stand just before the item. A READBUF that waits was told when it came, and isn't told again.
     pub fn feed_watched<I: Iio<Seat = S>, W: Watch<I>>(
         &mut self,
         alloc: Global,
@@ -135,7 +135,7 @@ impl<S> Session<S> {
         ensures manner { self.new.manner ≡ self.old.manner }
         ensures gone { OnErr result ((self.new.client.held.items ≡ []) × (self.new.client.holdings.items ≡ []) × (self.new.stream ≡ no_item AtEnd)) }
 
-        // In a script, over devices that tell their state, all of it is determined.
+        // In a script, over devices that tell their state, all of this is determined.
         ensures script { IfOk result (λ going. FeedTells self.old.manner (I.front (I.kept iio.old)) (state_of I.seen (I.told iio.old) self.old.client)
             (scan_on self.old.stream bytes.now).items out.old.items out.new.items (state_of I.seen (I.told iio.new) self.new.client)) }
     {
@@ -165,7 +165,7 @@ impl<S> Session<S> {
         }
     }
 
-    /// Closes every seat and ends every holding of events: the connection is lost.
+    /// Closes every seat and ends every holding of events, as when the connection is lost.
     pub fn drop_all<I: Iio<Seat = S>>(&mut self, iio: &mut I)
         requires { IsClient I.seen (I.front (I.kept iio.old)) self.old.client }
         ensures kept { I.kept iio.new ≡ I.kept iio.old }
@@ -178,7 +178,7 @@ impl<S> Session<S> {
         leave(&mut self.client, iio);
     }
 
-    /// Closes every seat and ends every holding of events, and spends the session.
+    /// Closes every seat, ends every holding of events, and consumes the session.
     pub fn end<I: Iio<Seat = S>>(self, iio: &mut I)
         requires { IsClient I.seen (I.front (I.kept iio.old)) self.client }
         ensures kept { I.kept iio.new ≡ I.kept iio.old }
@@ -202,21 +202,21 @@ impl<S> Session<S> {
         held.destroy_empty();
     }
 
-    /// Whether it has a seat at the device.
+    /// Whether the session has a seat at the device.
     pub fn holds(&self, dev: u32) -> bool
         ensures { (seen : S → SeatRecord) → result ≡ is_some (place_of dev (seats_of seen self.now.client.held.items)) }
     {
         place(&self.client.held, dev).is_some()
     }
 
-    /// Whether it has no seat.
+    /// Whether the session has no seat.
     pub fn holds_nothing(&self) -> bool
         ensures { (seen : S → SeatRecord) → result ≡ is_empty (seats_of seen self.now.client.held.items) }
     {
         self.client.held.is_empty()
     }
 
-    /// Whether it has ended: by EXIT, by a broken limit, or because [`Session::feed`] answered `Mem`.
+    /// Whether the session has ended: by EXIT, by a broken limit, or because [`Session::feed`] returned `Mem`.
     pub fn ended(&self) -> bool
         ensures { IsTrue result ↔ (self.now.stream ≡ no_item AtEnd) }
     {

@@ -22,7 +22,7 @@ pub(crate) struct Named {
     pub(crate) attribute: Attr,
 }
 
-/// What is set to which value.
+/// A WRITE: the attribute that is set, and its value.
 #[derive(Clone, Copy)]
 pub(crate) struct Assignment {
     pub(crate) target: Named,
@@ -46,7 +46,7 @@ fn has_attribute(kind: Kind, attribute: Attr) -> bool
     }
 }
 
-// The attribute of that name in a scope, of the device or of a channel.
+// Returns the attribute of that name in a scope, of the device or of a channel.
 fn named_in(kind: Kind, scope: Scope, channel: Option<u32>, name: &[u8]) -> Result<Named, Errno>
     ensures { (k : desc.Kind) → kind ≡ kind_code k → named_view result ≡ named_in k scope channel name.now }
 {
@@ -55,7 +55,7 @@ fn named_in(kind: Kind, scope: Scope, channel: Option<u32>, name: &[u8]) -> Resu
     Ok(Named { channel, attribute })
 }
 
-// An attribute of the channel of that ID.
+// Returns an attribute of the channel with that ID.
 fn named_at_channel(kind: Kind, shape: &Shape, id: &[u8], name: &[u8]) -> Result<Named, Errno>
     ensures { (k : desc.Kind) → kind ≡ kind_code k → named_view result ≡ named_at_channel k shape.now id.now name.now }
 {
@@ -63,7 +63,7 @@ fn named_at_channel(kind: Kind, shape: &Shape, id: &[u8], name: &[u8]) -> Result
     named_in(kind, Scope::Channel, Some(channel), name)
 }
 
-// The ID of a channel of a place where a device of that kind has channels.
+// Returns the ID of the channel that a place names, if a device of that kind has channels.
 fn channel_word<'a>(kind: Kind, place: Place<'a>) -> Option<&'a [u8]>
     ensures { (k : desc.Kind) → kind ≡ kind_code k → option_copied result ≡ channel_word k (place_view place.entry) }
 {
@@ -74,7 +74,7 @@ fn channel_word<'a>(kind: Kind, place: Place<'a>) -> Option<&'a [u8]>
     }
 }
 
-// What stands at a place. `ENOSYS` comes where no attribute is named, then `ENOENT` where there is none of that name.
+// Returns the attribute at a place. `ENOSYS` if no attribute is named, then `ENOENT` if there is none of that name.
 fn named_at(
     kind: Kind,
     shape: &Shape,
@@ -106,8 +106,8 @@ pub(crate) fn is_of_buffer(place: Place<'_>, name: Option<&[u8]>) -> bool
     }
 }
 
-/// What READ names. `ENODEV` comes where the device is unplugged, and `EBADF` where a buffer's attribute is named and the
-/// connection doesn't have the device open; where it has, a buffer's attribute is found also if the device is unplugged.
+/// Returns the attribute that READ names. `ENODEV` if the device is unplugged, then `EBADF` if a buffer's attribute is named
+/// and the connection doesn't have the device open; if it does, a buffer's attribute is found even if the device is unplugged.
 #[inline(always)]
 pub(crate) fn found(
     kind: Kind,
@@ -128,8 +128,8 @@ pub(crate) fn found(
     named_at(kind, shape, place, name)
 }
 
-/// What WRITE sets, and to which value. `ENODEV` comes where the device is unplugged, then the refusals of [`found`], then
-/// those of [`check`].
+/// Returns the attribute that WRITE sets, and its value. `ENODEV` if the device is unplugged, then the refusals of [`found`],
+/// then those of [`check`].
 #[inline(always)]
 pub(crate) fn write_found(
     kind: Kind,

@@ -12,7 +12,7 @@ use crate::iio::{Iio, No};
 use crate::wanted::ensure;
 use iio_text::Errno;
 
-// The number of the trigger that a SETTRIG names, or none where it names none.
+// Returns the number of the trigger that a SETTRIG names, or none if it names none.
 fn named_trigger<I: Iio>(iio: &I, name: Option<&[u8]>) -> Result<Option<u32>, Errno>
     ensures value { result ≡ trigger_named (I.front (I.kept iio.now)) (option_copied name.entry) }
     ensures within { IfOk result (λ trigger. IfSome trigger (λ t. t < length (I.front (I.kept iio.now)).triggers)) }
@@ -36,7 +36,7 @@ pub(crate) fn set_trigger_at<I: Iio>(iio: &mut I, dev: u32, name: Option<&[u8]>)
     iio.set_trigger(dev, trigger)
 }
 
-/// GETTRIG at the device of that number: 0 where it has no trigger.
+/// GETTRIG at the device of that number: 0 if it has no trigger.
 pub(crate) fn get_trigger_at<I: Iio>(iio: &I, dev: u32) -> Result<Answer, No>
     requires { dev < length (I.front (I.kept iio.now)).devices }
     ensures trigger { IsTrigger result }

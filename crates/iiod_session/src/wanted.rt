@@ -18,7 +18,7 @@ use iio_layout::{Shape, has_data, scan_size};
 use iio_mask::Mask;
 use iio_text::Errno;
 
-/// A mask, how many scans the queue is to hold, and the bytes of one.
+/// A mask, the number of scans that the queue is to hold, and the bytes of one scan.
 #[derive(Clone, Copy, Debug, PartialEq, Eq)]
 pub(crate) struct Wanted {
     pub(crate) mask: Mask,
@@ -35,15 +35,15 @@ fn is_excess(capacity: u64, size: u32) -> bool
         || capacity * u64::from(size) > u64::from(MAX_BYTES)
 }
 
-// Goes on where the condition holds, and is refused else.
+// Returns `Ok` if the condition holds, otherwise that error.
 pub(crate) fn ensure(holds: bool, errno: Errno) -> Result<(), Errno>
     ensures { result ≡ ensure holds errno }
 {
     if holds { Ok(()) } else { Err(errno) }
 }
 
-/// The mask and the capacity, which is the samples times the buffers count. Of the refusals the first that applies is the
-/// answer: the device is unplugged, CYCLIC is given at another than an output device, the text is no mask, the mask has no
+/// Returns the mask and the capacity, which is the samples times the buffers count. The first refusal that applies is returned:
+/// the device is unplugged, CYCLIC is given at a device that isn't an output device, the text is not a mask, the mask has no
 /// data channel, the capacity is 0 or too large, the connection has the device open.
 #[tactic(auto, unfolding(crate::specs::Client::wanted_of))]
 pub(crate) fn wanted_by(
@@ -80,7 +80,7 @@ pub(crate) fn wanted_by(
     })
 }
 
-/// The mask of a REMASK, for a queue of that capacity. Of the refusals the first that applies is the answer: the text is no
+/// Returns the mask of a REMASK, for a queue of that capacity. The first refusal that applies is returned: the text is not a
 /// mask, the mask has no data channel, the queue would have too many bytes.
 #[tactic(auto, unfolding(crate::specs::Client::mask_wanted))]
 pub(crate) fn mask_wanted_by(shape: &Shape, capacity: u32, text: &[u8]) -> Result<Wanted, Errno>

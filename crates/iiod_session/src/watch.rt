@@ -1,4 +1,4 @@
-//! What a watch is told of a connection.
+//! What a watch is told about a connection.
 
 ghost use Rattle.std.specs.Prelude.{◌≡◌, length, min};
 ghost use Rattle.iiod_grammar.specs.declared.lines.TheConstants.{MAX_PAYLOAD};
@@ -6,10 +6,10 @@ ghost use Rattle.iiod_grammar.specs.declared.lines.TheConstants.{MAX_PAYLOAD};
 use crate::iio::Iio;
 use iiod_grammar::{Command, MAX_PAYLOAD};
 
-/// An item of a stream, as a [`Watch`] is told it.
+/// An item of a stream, as it is told to a [`Watch`].
 #[derive(Clone, Copy, Debug, PartialEq, Eq)]
 pub enum Seen<'a> {
-    /// A command: EXIT too, a WRITE or WRITEBUF once its payload is whole, and one whose payload is too large.
+    /// A command; also EXIT, a WRITE or WRITEBUF once its payload is whole, and one whose payload is too large.
     Command(Command<'a>),
     /// A line that is no command.
     Refused,
@@ -17,10 +17,10 @@ pub enum Seen<'a> {
     TooLong,
 }
 
-/// What looks on while a connection is fed, as [`Session::feed_watched`](crate::Session::feed_watched) does it.
+/// An observer of a connection while it is fed by [`Session::feed_watched`](crate::Session::feed_watched).
 ///
-/// What a watch is, is the relation `makes`: what it has become once it was told an item, by the devices as they stand just
-/// before the item, where they tell their state, and by the connection's number.
+/// The relation `makes` says what a watch becomes when it is told an item. It may depend on the devices as they stand just
+/// before the item, if they tell their state, and on the connection's number.
 pub trait Watch<I: Iio> {
     ghost use Rattle.std.specs.Prelude.{ℕ, Option};
     ghost use Rattle.iiod_grammar.specs.Stream.{Item};
@@ -30,12 +30,12 @@ pub trait Watch<I: Iio> {
 
     ghost makes: { Front → Option Machine → ℕ → Item → Self → Self → Type 0 };
 
-    /// Connection `who` is about to be answered the item.
+    /// Called just before connection `who` is answered the item.
     fn before(&mut self, iio: &I, who: u32, item: &Seen<'_>)
         ensures { (x : Item) → IsSeen x item.now → makes (I.front (I.kept iio.now)) (I.told iio.now) who x self.old self.new };
 }
 
-/// A watch that looks at nothing.
+/// A watch that ignores every item.
 #[derive(Clone, Copy, Debug, PartialEq, Eq)]
 pub struct Unwatched;
 
@@ -47,7 +47,7 @@ impl<I: Iio> Watch<I> for Unwatched {
     fn before(&mut self, _iio: &I, _who: u32, _item: &Seen<'_>) {}
 }
 
-/// How many bytes a payload has, which are no more than it may have.
+/// Returns the number of bytes of a payload, at most `MAX_PAYLOAD`.
 pub(crate) fn count_of(payload: &[u8]) -> u32
     ensures { result ≡ min (length payload.now) MAX_PAYLOAD }
 {

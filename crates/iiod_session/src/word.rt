@@ -1,4 +1,4 @@
-//! A word that is kept.
+//! A word kept in a vector.
 
 ghost use Rattle.std.specs.Prelude.{◌≡◌, ◌≤◌, [], length, take, OnOk};
 
@@ -6,8 +6,8 @@ use iio_base::Mem;
 use std::alloc::Global;
 use std::marker::Model;
 
-/// A word in a room that serves one word after another. It stands at the front of the room, which isn't cleared, so that it is
-/// only copied.
+/// A word in a vector that is reused for one word after another. The word stands at the front of the vector, which isn't
+/// cleared, so that a word is only copied.
 #[derive(Drop)]
 pub(crate) struct Word {
     room: Vec<u8>,
@@ -25,7 +25,7 @@ impl Model for Word {
 }
 
 impl Word {
-    /// The empty word.
+    /// Creates the empty word.
     pub(crate) fn new(alloc: Global) -> Word
         ensures { result ≡ [] }
     {
@@ -35,7 +35,7 @@ impl Word {
         }
     }
 
-    /// Puts a word in place of the one that stood there.
+    /// Replaces the word.
     #[inline(always)]
     pub(crate) fn set(&mut self, word: &[u8]) -> Result<(), Mem>
         ensures { OnOk result (self.new ≡ word.now) }
@@ -56,7 +56,7 @@ impl Word {
     }
 }
 
-// Puts bytes at the front over what stands there.
+// Copies bytes to the front, over what stands there.
 #[inline(always)]
 fn put(room: &mut Vec<u8>, bytes: &[u8])
     requires { length bytes.now ≤ length room.old.items }

@@ -3,7 +3,7 @@ use Rattle.std.proofs.Common.{◌≡◌, ℕ, List, ◌++◌, length, option_map
 use Rattle.iiod_reply.specs.Reply.{joined_scans}
 use Rattle.iiod_session.specs.Seat.{SeatRecord, after_scans}
 
--- that many came: their bytes were appended, and the seat tells them
+-- that many scans came: their bytes were appended, and the seat records them
 pub record Came (count : ℕ) (old new : SeatRecord) (before after : List ℕ) : Type 0 where
   pub scans : List (List ℕ)
   pub many : length scans ≡ count

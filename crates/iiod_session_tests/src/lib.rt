@@ -1,4 +1,4 @@
-//! Devices in memory whose seats tell what they gave, and tests of sessions over them.
+//! Devices in memory whose seats record the scans that they gave, and tests of sessions over them.
 #![tactic(auto)]
 
 mod shelf;

@@ -1,4 +1,4 @@
-//! Devices in memory. They sample nothing: their scans stand on a shelf, and each goes to the seat that asks first.
+//! Devices in memory. They sample nothing: their scans lie on a shelf, and each goes to the first seat that asks.
 
 ghost use Rattle.std.specs.Prelude.{◌≡◌, ◌+◌, ◌≤◌, false, length, option_map, vec_capacity, IfOk};
 ghost use Rattle.iio_desc.specs.WellFormed.{IsWellFormed};
@@ -25,12 +25,12 @@ pub struct ShelfSeat {
     pub capacity: u32,
     pub size: u32,
     pub given: Vec<Vec<u8>>,
-    /// How many takes found nothing.
+    /// The number of takes that found nothing.
     pub empties: u64,
 }
 
 impl ShelfSeat {
-    // A take found nothing, at a device that is plugged.
+    // Counts a take that found nothing, at a device that is plugged.
     fn nothing(&mut self)
         ensures { seen_of self.new ≡ record (seen_of self.old) { trace = option_map (after_nothing false) (seen_of self.old).trace } }
     {
@@ -43,14 +43,14 @@ impl ShelfSeat {
 pub struct Shelf {
     alloc: Global,
     pub(crate) front: HubFront,
-    /// The scans that wait, the oldest first. One of another size than the seat's waits for another seat.
+    /// The scans that wait, the oldest first. A scan of another size than the seat's waits for another seat.
     pub scans: Vec<Vec<u8>>,
-    /// What each seat had given when it was closed or got another mask, in the order in which that happened.
+    /// The scans that each seat had given when it was closed or got another mask, in the order in which that happened.
     pub closed: Vec<Vec<Vec<u8>>>,
 }
 
 impl Shelf {
-    /// The devices of a description, at which nothing waits.
+    /// Creates the devices of a description, at which nothing waits.
     pub fn new(alloc: Global, desc: Desc) -> Result<Shelf, Mem>
         requires { IsWellFormed 0 desc }
         ensures { IfOk result (λ s. front_of s.front ≡ served_front desc) }
@@ -68,7 +68,8 @@ impl Shelf {
         })
     }
 
-    // Gives the oldest scan, and appends its bytes. False where there is none of the seat's size, or no memory for its list.
+    // Gives the oldest scan, and appends its bytes. Returns false if it isn't of the seat's size, if there is none, or if there
+    // is no memory for the seat's list.
     fn give(&mut self, seat: &mut ShelfSeat, out: &mut Vec<u8>) -> bool
         requires { length out.old.items + seat.old.size ≤ vec_capacity out.old }
         ensures front { self.new.front ≡ self.old.front }
@@ -102,7 +103,7 @@ impl Iio for Shelf {
 
     ghost front = { λ kept. kept };
 
-    // the state of its devices isn't told: what a session answers rests on its seats alone
+    // the state of its devices isn't told: a session's answers depend on its seats alone
     ghost told = { λ s. None };
 
     ghost seen = { seen_of };

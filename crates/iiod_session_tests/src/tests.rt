@@ -14,7 +14,7 @@ use std::alloc::Global;
 use std::process::Abort;
 use std::test::Fail;
 
-// Reads a line of a description. Nothing is known here of what it says.
+// Reads a line of a description. The contract says nothing of what the line means.
 fn read_line(reader: &mut DescReader, line: &[u8]) -> Result<(), Fail>
     requires { line_count reader.old < 2 ^ 32 - 2 }
     ensures counted { line_count reader.new ≤ line_count reader.old + 1 }
@@ -24,7 +24,7 @@ fn read_line(reader: &mut DescReader, line: &[u8]) -> Result<(), Fail>
     Ok(())
 }
 
-// A device of two channels of one byte each.
+// Describes a device with two channels of one byte each.
 fn described(alloc: Global) -> Result<Desc, Fail>
     ensures { IfOk result (λ desc. IsWellFormed 0 desc) }
 {
@@ -37,7 +37,7 @@ fn described(alloc: Global) -> Result<Desc, Fail>
     Ok(reader.finish()?)
 }
 
-// A shelf on which these scans wait.
+// Creates a shelf on which these scans wait.
 fn shelf_of(alloc: Global, scans: &[&[u8]]) -> Result<Shelf, Fail> {
     let mut shelf = Shelf::new(alloc, described(alloc)?)?;
     for scan in scans {
@@ -46,10 +46,10 @@ fn shelf_of(alloc: Global, scans: &[&[u8]]) -> Result<Shelf, Fail> {
     Ok(shelf)
 }
 
-// What comes, and what is answered.
+// The bytes received, and the bytes answered.
 type Exchange<'a> = (&'a [u8], &'a [u8]);
 
-// Three seats one after another, in pieces that end within lines and hold many.
+// Three seats one after another, in pieces that end within lines and contain many.
 const EXCHANGES: [Exchange<'static>; 5] = [
     (b"OPEN adc0 2 000", b""),
     (b"00003\nREADBUF adc0 4\nREADB", b"0\n4\n00000003\naAbB"),
@@ -67,7 +67,7 @@ const EXCHANGES: [Exchange<'static>; 5] = [
     ),
 ];
 
-// Feeds a piece: these answers come, and the connection then stands as `going` says.
+// Feeds a piece, and checks the answers and how the connection then stands.
 fn hear(
     rt: &impl Abort,
     alloc: Global,
@@ -88,7 +88,7 @@ fn hear(
     Ok(())
 }
 
-// What each seat that was closed had given: a line for each seat, and a space after each scan.
+// Returns the scans that each closed seat had given: a line for each seat, and a space after each scan.
 fn lists(alloc: Global, closed: &[Vec<Vec<u8>>]) -> Result<Vec<u8>, Fail> {
     let mut text = Vec::new(alloc);
     for seat in closed {
@@ -101,7 +101,7 @@ fn lists(alloc: Global, closed: &[Vec<Vec<u8>>]) -> Result<Vec<u8>, Fail> {
     Ok(text)
 }
 
-// A seat that gets another mask: what it gives from then on is a list of its own.
+// A seat that gets another mask: the scans that it gives from then on are a list of their own.
 const REMASKED: [Exchange<'static>; 2] = [
     (
         b"OPEN adc0 2 00000003\nREADBUF adc0 2\nREMASK adc0 00000002\n",
@@ -113,7 +113,7 @@ const REMASKED: [Exchange<'static>; 2] = [
     ),
 ];
 
-// The data after a REMASK are the scans that the seat gave since then, under its new mask.
+// The data after a REMASK are the scans that the seat has given since then, under its new mask.
 #[test]
 fn a_remask_begins_the_data_anew(rt: HostRuntime) -> Result<(), Fail> {
     let alloc = rt.alloc();
@@ -160,7 +160,7 @@ fn data_are_what_the_seats_gave(rt: HostRuntime) -> Result<(), Fail> {
     Ok(())
 }
 
-// What a watch was told: a letter for each item, and a digit for the scans that waited just before it.
+// What a watch was told: a letter for each item, and a digit for the number of scans that waited just before it.
 #[derive(Drop)]
 struct Letters {
     told: [u8; 32],

@@ -1,4 +1,4 @@
-//! The forms in memory: what a link receives and sends, what a door and a ticker hand out, a gate.
+//! The forms in memory: what a link receives and sends, what a door and a ticker hand out, and a gate.
 
 use iio_io::{
     Dial, Door, Failed, Gate, Link, ListDoor, ListTicker, Listen, MemLink, MemSink, MemSource,
@@ -7,7 +7,7 @@ use iio_io::{
 use std::alloc::Global;
 use std::test::Fail;
 
-// A link with these bytes left, in pieces of at most three, and room for five bytes.
+// A link with these bytes left, in pieces of at most three bytes, and room for five bytes.
 fn link(alloc: Global, bytes: &[u8], reads: &[u64], writes: &[u64]) -> Result<MemLink, Fail> {
     let source = MemSource::new(bytes.to_vec(alloc)?, 3, reads.to_vec(alloc)?);
     let sink = MemSink::new(alloc, 5, writes.to_vec(alloc)?)?;
@@ -18,8 +18,8 @@ type Count = Result<usize, Failed>;
 
 const NO: Count = Err(Failed);
 
-/// The reads and writes that fail at a link with three bytes left, and what it answers, by turns, to receives into two bytes
-/// and to sends of two.
+/// The reads and writes that fail at a link with three bytes left, and what it returns, by turns, to receives into two bytes
+/// and to sends of two bytes.
 const TURNS: &[(&[u64], &[u64], [Count; 3], [Count; 3])] = &[
     (&[], &[], [Ok(2), Ok(1), Ok(0)], [Ok(2), Ok(2), Ok(1)]),
     (&[1], &[], [NO, Ok(2), Ok(1)], [Ok(2), Ok(2), Ok(1)]),
@@ -27,7 +27,7 @@ const TURNS: &[(&[u64], &[u64], [Count; 3], [Count; 3])] = &[
     (&[3], &[3], [Ok(2), Ok(1), NO], [Ok(2), Ok(2), NO]),
 ];
 
-// A receive, whose bytes are kept.
+// Receives, and keeps the bytes.
 fn hear(link: &mut MemLink, heard: &mut Vec<u8>) -> Result<Count, Fail> {
     let mut out = [0u8; 2];
     let got = link.recv(&mut out);
@@ -35,14 +35,14 @@ fn hear(link: &mut MemLink, heard: &mut Vec<u8>) -> Result<Count, Fail> {
     Ok(got)
 }
 
-// A send, of which what went is kept.
+// Sends, and keeps the bytes that were sent.
 fn say(link: &mut MemLink, said: &mut Vec<u8>) -> Result<Count, Fail> {
     let put = link.send(b"xy");
     said.extend_from_slice(&b"xy"[..put.unwrap_or(0)])?;
     Ok(put)
 }
 
-// Whether a receive and a send are answered so, and the link tells all that was sent.
+// Whether a receive and a send return these, and the link shows all that was sent.
 fn is_right_turn(
     link: &mut MemLink,
     heard: &mut Vec<u8>,
@@ -55,7 +55,7 @@ fn is_right_turn(
     Ok(got == received && put == sent && link.sent() == said.as_slice())
 }
 
-// Whether a link with `abc` left answers so, by turns, and all of that was received.
+// Whether a link with `abc` left returns these, by turns, and all of what was left was received.
 fn is_two_ends(
     alloc: Global,
     reads: &[u64],
@@ -85,7 +85,7 @@ fn a_link_in_memory_is_its_two_ends(rt: HostRuntime) -> Result<(), Fail> {
     Ok(())
 }
 
-// A whole send takes as many sends as it needs; where one fails, a front part was sent.
+// A whole send takes as many sends as it needs; if one fails, only a front part was sent.
 #[test]
 fn a_whole_send_is_cut_where_a_send_fails(rt: HostRuntime) -> Result<(), Fail> {
     let mut link = link(rt.alloc(), b"", &[], &[])?;
@@ -109,7 +109,7 @@ const END: Given = Ok(None);
 
 const FAILS: Given = Err(Failed);
 
-/// The calls that fail at a door of two links, whether it listens, and what it then gives.
+/// The calls that fail at a door of two links, whether `listen` succeeds, and what the door then gives.
 const DOORS: &[(&[u64], bool, &[Given])] = &[
     (&[], true, &[A, B, END, END]),
     (&[1], false, &[A, B, END, END]),
@@ -136,7 +136,7 @@ fn given_by(door: &mut ListDoor<MemLink>) -> Result<Given, Fail> {
     }
 }
 
-// Whether a door of two links whose listed calls fail listens or fails, has no tick, and gives these.
+// Whether a door of two links, whose listed calls fail, listens exactly if `listens`, has no tick, and gives these.
 fn is_door(alloc: Global, fails: &[u64], listens: bool, gives: &[Given]) -> Result<bool, Fail> {
     let mut door = ListDoor::new(two_links(alloc)?, fails.to_vec(alloc)?);
     let mut right = door.listen("nowhere").is_ok() == listens && door.ticker(1).next().is_none();
@@ -148,7 +148,7 @@ fn is_door(alloc: Global, fails: &[u64], listens: bool, gives: &[Given]) -> Resu
     Ok(right)
 }
 
-// Calls are counted over both, and one that fails gives no link away.
+// Calls are counted over both functions, and one that fails gives no link away.
 #[test]
 fn a_door_over_a_list_counts_its_calls(rt: HostRuntime) -> Result<(), Fail> {
     for (fails, listens, gives) in DOORS {

@@ -1,4 +1,4 @@
-//! The adapters over sockets, each on the loopback with both ends in one test.
+//! The adapters over sockets, each over the loopback with both ends in one test.
 
 use iio_io::{Dial, Door, Failed, Link, Listen, TcpDoor, TcpLink, accept};
 use std::alloc::Global;
@@ -8,7 +8,8 @@ use std::net::{Ipv4Addr, OpenListener, SocketAddr};
 use std::sync::atomic::{AtomicBool, Ordering};
 use std::test::Fail;
 
-/// Texts that are no address: nothing, no port, an empty one, one too large, and an address of the longer kind without a port.
+/// Texts that are no address: an empty one, no port, an empty port, one that is too large, and an address of the longer kind
+/// without a port.
 const WRONG: &[&str] = &["", "127.0.0.1", "127.0.0.1:", "127.0.0.1:65536", "::1"];
 
 // A door on a port that the system chose.
@@ -18,7 +19,7 @@ fn open<'a>(rt: HostRuntime, stop: &'a AtomicBool) -> Result<TcpDoor<'a, HostRun
     Ok(door)
 }
 
-// Where a door is open, as a text.
+// The address at which a door is open, as a text.
 fn place<'a>(alloc: Global, door: &TcpDoor<'a, HostRuntime>) -> Result<String, Fail> {
     match door.address() {
         Some(address) => Ok(format!(in alloc; "{address}")?),
@@ -31,7 +32,7 @@ fn sends(link: &mut TcpLink<HostRuntime>, bytes: &[u8]) -> bool {
     link.send(bytes) == Ok(bytes.len())
 }
 
-// Whether one receive into that many bytes, 8 at most, gives these.
+// Whether one receive into that many bytes, at most 8, gives these.
 fn hears(link: &mut TcpLink<HostRuntime>, room: usize, bytes: &[u8]) -> bool {
     let mut out = [0u8; 8];
     let room = room.min(8);
@@ -56,7 +57,7 @@ fn speaks(
         && far.faults() == 0
 }
 
-// A link is dialled, and the door's next connection is its other end, until this returns.
+// Dials a link, and takes the door's next connection as its other end, until this returns.
 fn is_connected<'a>(
     near: &mut TcpLink<HostRuntime>,
     door: &mut TcpDoor<'a, HostRuntime>,
@@ -73,7 +74,7 @@ fn is_connected<'a>(
     }
 }
 
-// How many bytes come until the end, of at most 32.
+// The number of bytes that come until the end, of at most 32.
 fn count_left(link: &mut TcpLink<HostRuntime>) -> Result<usize, Fail> {
     let mut out = [0u8; 4];
     let mut rest = 0usize;
@@ -83,8 +84,8 @@ fn count_left(link: &mut TcpLink<HostRuntime>) -> Result<usize, Fail> {
     Ok(rest)
 }
 
-// A link sends and receives, also where it is dialled again: nothing of the connection before is left then. The peer that goes
-// away is the end.
+// A link sends and receives, also if it is dialled again: then nothing of the connection before is left. If the peer goes away,
+// that is the end.
 #[test]
 fn links_over_the_loopback(rt: HostRuntime) -> Result<(), Fail> {
     let stop = AtomicBool::new(false);
@@ -102,7 +103,7 @@ fn links_over_the_loopback(rt: HostRuntime) -> Result<(), Fail> {
     Ok(())
 }
 
-// A peer that closes with bytes unread resets the connection: a failure each, counted, and no signal.
+// A peer that closes with bytes unread resets the connection: each call fails and is counted, and no signal is raised.
 #[test]
 fn a_reset_is_a_failure(rt: HostRuntime) -> Result<(), Fail> {
     let stop = AtomicBool::new(false);
@@ -139,7 +140,7 @@ fn a_door_on_a_taken_port_fails(rt: HostRuntime) -> Result<(), Fail> {
     Ok(())
 }
 
-// Whether each call fails at a link that can't be dialled there.
+// Whether each call fails at a link that can't be dialled at that address.
 fn each_fails(link: &mut TcpLink<HostRuntime>, address: &str) -> bool {
     let mut out = [0u8; 8];
     link.dial(address) == Err(Failed)
@@ -147,7 +148,7 @@ fn each_fails(link: &mut TcpLink<HostRuntime>, address: &str) -> bool {
         && link.send(b"unsent") == Err(Failed)
 }
 
-// A link that isn't dialled, and addresses at which it can't be: each call fails and is counted. The last one is a port at
+// A link that isn't dialled, and addresses at which it can't be: each call fails and is counted. The last address has a port at
 // which nobody listens.
 #[test]
 fn a_link_that_is_not_dialled_fails(rt: HostRuntime) -> Result<(), Fail> {
@@ -164,7 +165,7 @@ fn a_link_that_is_not_dialled_fails(rt: HostRuntime) -> Result<(), Fail> {
     Ok(())
 }
 
-/// A listener whose calls of accept answer what is listed: an error by its number, and 0 a connection.
+/// A listener whose accepts return what is listed: an error by its number, or 0 for a connection.
 #[derive(Drop)]
 struct Listed<'a> {
     errors: &'a [i32],
@@ -184,9 +185,9 @@ impl<'a> OpenListener for Listed<'a> {
     }
 }
 
-// The errors of a listener's calls, and the number of the call whose connection is taken. Connections that went away before they
-// were taken are passed over: ECONNABORTED is 103, ECONNRESET 104, ENETUNREACH 101, EHOSTUNREACH 113. Without descriptors the call
-// fails at once: EMFILE is 24, ENFILE 23.
+// The errors of a listener's calls, and the number of the call whose connection is taken. Connections that went away before
+// they were taken are passed over: ECONNABORTED is 103, ECONNRESET 104, ENETUNREACH 101, EHOSTUNREACH 113. Without descriptors
+// the call fails at once: EMFILE is 24, ENFILE 23.
 #[test]
 fn an_aborted_connection_is_passed_over(rt: HostRuntime) {
     for (errors, taken) in [

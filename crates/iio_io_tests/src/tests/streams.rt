@@ -10,11 +10,11 @@ use std::io;
 use std::io::{ErrorKind, Read, Write};
 use std::test::Fail;
 
-/// What the calls of a stream answer, in this order: `None` is a signal that cut the call short, `Some(0)` a failure, another
+/// What the calls of a stream return, in this order: `None` is a signal that cut the call short, `Some(0)` a failure, another
 /// number that many bytes. After these each call fails.
 type Answers = [Option<usize>; 4];
 
-/// A stream whose calls answer what is listed.
+/// A stream whose calls return what is listed.
 #[derive(Drop)]
 struct Listed {
     answers: Answers,
@@ -51,7 +51,7 @@ impl Write for Listed {
     }
 }
 
-// How many bytes a whole read takes of seven, and how many another one takes then.
+// How many bytes a whole read takes of seven, and how many a second one takes then.
 fn read_two(alloc: Global, limit: u32) -> Result<(usize, usize), Fail> {
     let mut source = MemSource::new(b"abcdefg".to_vec(alloc)?, 1, Vec::new(alloc));
     let taken = read_whole(alloc, &mut source, limit as usize)?.len();
@@ -90,7 +90,7 @@ fn standard_input_and_output_answer(rt: HostRuntime) {
 
 type Count = Result<usize, Failed>;
 
-// What two reads of such a stream give, and how many faults that were.
+// What two reads of such a stream return, and the number of faults.
 fn two_reads(answers: Answers) -> (Count, Count, u64) {
     let mut out = [0u8; 8];
     let mut source = StdSource::new(Listed { answers, calls: 0 });
@@ -99,7 +99,7 @@ fn two_reads(answers: Answers) -> (Count, Count, u64) {
     (first, second, source.faults())
 }
 
-// The same of two writes.
+// What two writes of such a stream return, and the number of faults.
 fn two_writes(answers: Answers) -> (Count, Count, u64) {
     let mut sink = StdSink::new(Listed { answers, calls: 0 });
     let first = sink.write(&[0u8; 8]);
@@ -107,7 +107,7 @@ fn two_writes(answers: Answers) -> (Count, Count, u64) {
     (first, second, sink.faults())
 }
 
-// The answers of a stream, what two calls give of them, and how many faults that are: a call that a signal cut short is made
+// The answers of a stream, what two calls return of them, and the number of faults: a call that a signal cut short is made
 // again, and one that failed isn't.
 #[test]
 fn only_a_signal_is_tried_again(rt: HostRuntime) {

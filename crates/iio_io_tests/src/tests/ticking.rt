@@ -1,4 +1,4 @@
-//! The clock's ticker: a clock by hand, and the real one.
+//! The clock's ticker, with a clock that is set by hand and with the real one.
 
 use iio_io::{ClockTicker, Listen, TcpDoor, Ticker};
 use std::cell::Cell;
@@ -8,7 +8,7 @@ use std::sync::atomic::{AtomicBool, Ordering};
 use std::test::Fail;
 use std::time::{Clock, Duration, Instant};
 
-/// A clock by hand, in nanoseconds. It goes on by what is slept, and can't be read past `end`.
+/// A clock that is set by hand, in nanoseconds. It goes on by what is slept, and can't be read past `end`.
 #[derive(Drop)]
 struct Hand<'a> {
     now: &'a Cell<u64>,
@@ -33,15 +33,15 @@ impl<'a> Clock for Hand<'a> {
     }
 }
 
-// Lets a clock by hand go on by `later`, and gives the ticker's next moment, and where the clock stands then.
+// Lets a clock go on by `later`, and returns the ticker's next moment and where the clock stands then.
 fn tick(ticker: &mut ClockTicker<Hand>, now: &Cell<u64>, later: u64) -> (Option<i64>, u64) {
     now.set(now.get().saturating_add(later));
     let moment = ticker.next();
     (moment, now.get())
 }
 
-/// By how much the clock goes on before each call, the moment that is given, and where the clock stands then. The ticks are on
-/// time, late by less than a period, late by more, and on time again.
+/// By how much the clock goes on before each call, the moment that is returned, and where the clock stands then. The ticks are
+/// on time, late by less than a period, late by more, and on time again.
 const TICKS: &[(u64, i64, u64)] = &[
     (0, 10_000_000, 10_005_000),
     (3, 20_000_000, 20_005_000),
@@ -92,12 +92,12 @@ fn a_ticker_that_cannot_tick_ends(rt: HostRuntime) -> Result<(), Fail> {
     Ok(())
 }
 
-// Whether a moment is one of the grid of 2 milliseconds after the last one, and has come.
+// Whether a moment is a later one of the grid of 2 milliseconds than the last, and has come.
 fn is_due(last: i64, moment: i64, passed: i64) -> bool {
     moment % 2_000_000 == 0 && last < moment && moment <= passed
 }
 
-// The real clock: the moments are those of the grid, and none is given before it has come.
+// The real clock: the moments are those of the grid, and none is returned before it has come.
 #[test]
 fn the_clock_of_a_door_ticks(rt: HostRuntime) -> Result<(), Fail> {
     let stop = AtomicBool::new(false);

@@ -1,4 +1,4 @@
-//! The device that is played: three channels of two bytes, and one row.
+//! The device under test: three channels of two bytes, and one row.
 
 ghost use Rattle.std.specs.Prelude.{IfOk};
 ghost use Rattle.iio_layout.specs.Rows.{IsRecording};
@@ -44,7 +44,7 @@ fn voltage(number: u16, ty: &str) -> Result<Channel, Fail> {
     })
 }
 
-// The channels voltage0, voltage1 and voltage2 of two bytes, and these listed masks.
+// The shape with the channels voltage0, voltage1 and voltage2 of two bytes, and these listed masks.
 fn shape_of(alloc: Global, listed: &[&str]) -> Result<Shape, Fail> {
     let mut channels = Vec::new(alloc);
     for number in 0u16..3 {
@@ -58,7 +58,7 @@ fn named(text: &str) -> Result<Name, Fail> {
     Ok(Name::new(text.as_bytes()).ok_or("no name")?)
 }
 
-// A device with these channels and masks, on the first trigger.
+// The description of a device with these channels and masks, on the first trigger.
 fn described(alloc: Global, listed: &[&str]) -> Result<DeviceDesc, Fail>
     ensures { IfOk result (λ d. IsFit 0 d) }
 {
@@ -75,7 +75,7 @@ fn described(alloc: Global, listed: &[&str]) -> Result<DeviceDesc, Fail>
     })
 }
 
-/// That device, made.
+/// Makes that device.
 pub(crate) fn device_of(alloc: Global, listed: &[&str]) -> Result<Device<Kfifo>, Fail> {
     let mut descs = Vec::new(alloc);
     descs.push(described(alloc, listed)?)?;

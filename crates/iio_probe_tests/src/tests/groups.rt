@@ -3,7 +3,7 @@
 use crate::tests::steps::{Act, Sight, Step, check_steps};
 use std::test::Fail;
 
-// Masks that are equal count once, and each counts until its last member has left.
+// Equal masks count once, and each counts until its last member has left.
 const MASKS: &[Step] = &[
     (Act::Nothing, &[Sight::Groups(0)]),
     (Act::Joins(0, "00000001"), &[Sight::Groups(1)]),

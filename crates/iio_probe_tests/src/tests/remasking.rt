@@ -4,7 +4,7 @@ use crate::tests::steps::{Act, Sight, Step, check_steps};
 use iio_device::RemaskFault;
 use std::test::Fail;
 
-// The queue of before comes back with what waits in it, what it lost counts, and the member begins anew.
+// The old queue is given back with what waits in it, what it lost counts, and the member begins anew.
 const BEGINS_ANEW: &[Step] = &[
     (Act::Joins(0, "00000005"), &[]),
     (Act::Captures(1000, 1), &[]),
@@ -34,7 +34,7 @@ const NEXT_CAPTURE: &[Step] = &[
     (Act::Takes(0, [2, 0]), &[]),
 ];
 
-// Its own mask again: it begins anew all the same.
+// A member asks for its own mask again: it begins anew all the same.
 const OWN_MASK: &[Step] = &[
     (Act::Joins(0, "00000002"), &[]),
     (Act::Captures(1000, 1), &[]),
@@ -52,10 +52,10 @@ fn a_member_begins_anew(rt: HostRuntime) -> Result<(), Fail> {
     Ok(())
 }
 
-// Masks that serve a device.
+// The listed masks of a device.
 const LISTED: &[&str] = &["00000003", "00000004"];
 
-// The refusals in their order; and of an unplugged device each is that it is gone. No member is 7.
+// The refusals in their order; an unplugged device refuses each time because it is gone. No member has the number 7.
 const REFUSALS: &[Step] = &[
     (Act::Joins(0, "00000001"), &[]),
     (
@@ -94,7 +94,7 @@ const REFUSALS: &[Step] = &[
     ),
 ];
 
-// A refusal changes nothing. The mask that is asked for serves the old union, and not the new one.
+// A refusal changes nothing. A listed mask serves the old union, and none serves the new one.
 const NOTHING_CHANGES: &[Step] = &[
     (Act::Joins(0, "00000001"), &[]),
     (Act::Joins(1, "00000002"), &[]),
@@ -119,7 +119,7 @@ fn another_mask_is_refused(rt: HostRuntime) -> Result<(), Fail> {
     Ok(())
 }
 
-// With no other member the new union is the mask itself; an unplugged device keeps what waits.
+// Without another member the new union is the mask itself; an unplugged device keeps what waits.
 const ALONE: &[Step] = &[
     (Act::Joins(0, "00000001"), &[]),
     (Act::Remasks(0, "00000004", Ok((0, 0))), &[Sight::Active(4)]),
@@ -131,7 +131,7 @@ const ALONE: &[Step] = &[
     ),
 ];
 
-// Two members exchange their masks, while an entry is outstanding: its capture gives each its scan under its new mask.
+// Two members exchange their masks while an entry is outstanding: its capture gives each its scan under its new mask.
 const EXCHANGE: &[Step] = &[
     (Act::Joins(0, "00000001"), &[]),
     (Act::Joins(1, "00000002"), &[]),

@@ -1,4 +1,4 @@
-//! What is done at a device on a trigger of one place, step by step, and what is seen of it then.
+//! What is done at a device on a trigger of one place, step by step, and what is seen of the device then.
 
 ghost use Rattle.std.specs.Prelude.{◌≡◌, ◌+◌, ◌^◌, ◌<◌, IfOk};
 ghost use Rattle.iio_layout.specs.Layout.{scan_size};
@@ -14,7 +14,7 @@ use std::alloc::Global;
 use std::process::Abort;
 use std::test::Fail;
 
-/// What is done. Members are told by their numbers, which are those of their joinings, from 0 on.
+/// What is done. Members are named by their numbers, which count joinings from 0 on.
 #[derive(Clone, Copy)]
 pub(crate) enum Act {
     Nothing,
@@ -23,12 +23,12 @@ pub(crate) enum Act {
     Leaves(u64),
     /// The trigger is polled at that moment.
     Polls(i64),
-    /// The entry that is due is handled: that many members are offered their scans.
+    /// The entry that is due is handled, and that many members are offered their scans.
     Handles(u32),
-    /// Both, one after the other.
+    /// A poll at that moment, and then the handling of its entry, as by `Polls` and `Handles`.
     Captures(i64, u32),
-    /// A member is to have another mask, with a queue of one scan: how many scans wait in its queue of before and how many
-    /// that lost, or why not. A refusal gives the new queue back.
+    /// A member asks for another mask, with a queue of one scan: the answer is how many scans wait in its old queue and how
+    /// many that lost, or why it is refused. A refusal gives the new queue back.
     Remasks(u64, &'static str, Result<(u32, u64), RemaskFault>),
     /// A member's oldest scan is taken.
     Takes(u64, [u8; 2]),
@@ -38,24 +38,25 @@ pub(crate) enum Act {
 /// What is seen of a device.
 #[derive(Clone, Copy)]
 pub(crate) enum Sight {
-    /// How many masks the members have, those that are equal counted once.
+    /// The number of distinct masks of the members.
     Groups(u32),
     Members(u32),
     Captures(u64),
     Overruns(u64),
     /// The bits of the mask that its sensor is asked under.
     Active(u64),
-    /// How many scans wait for a member, and how many its queue lost.
+    /// How many scans wait for a member.
     Waiting(u64, u32),
+    /// How many scans a member's queue lost.
     Lost(u64, u64),
-    /// A member is live under the mask of these bits.
+    /// A member is live under the mask with these bits.
     IsUnder(u64, u64),
     First(u64),
-    /// What `may_remask` answers for a member and the bits of a mask.
+    /// What `may_remask` returns for a member and the mask with these bits.
     MayRemask(u64, u64, Result<(), RemaskFault>),
 }
 
-/// A step: what is done, and what is seen then.
+/// A step: what is done, and what is seen afterwards.
 pub(crate) type Step = (Act, &'static [Sight]);
 
 // The mask of a text, for the channels of a shape.
@@ -78,7 +79,7 @@ fn queue_for(rt: &impl Abort, alloc: Global, shape: &Shape, mask: Mask) -> Resul
     Ok(Kfifo::new(alloc, 1, size)?)
 }
 
-// Whether a member joins, and has that number.
+// Whether a member joins and gets that number.
 fn joins(
     rt: &impl Abort,
     alloc: Global,
@@ -132,7 +133,7 @@ fn takes(device: &mut Device<Kfifo>, number: u64, bytes: [u8; 2]) -> bool {
     taken == Some(true) && scan == bytes
 }
 
-// Does what a step says, and says whether that is answered as it should.
+// Does what a step says, and returns whether it is answered as it should be.
 fn does(
     rt: &impl Abort,
     alloc: Global,
@@ -180,7 +181,7 @@ fn shows(device: &Device<Kfifo>, sight: Sight) -> bool {
     }
 }
 
-// How many of these are seen, up to the first that isn't.
+// The number of these that are seen, up to the first that isn't.
 fn count_shown(device: &Device<Kfifo>, sights: &[Sight]) -> usize {
     for (place, sight) in sights.iter().enumerate() {
         if !shows(device, *sight) {
@@ -190,7 +191,8 @@ fn count_shown(device: &Device<Kfifo>, sights: &[Sight]) -> usize {
     sights.len()
 }
 
-// How many steps are answered and seen as they should, up to the first that isn't, and how many sights of that one.
+// The number of steps that are answered and seen as they should be, up to the first that isn't, and the number of sights of
+// that one.
 fn count_right(
     rt: &impl Abort,
     alloc: Global,
@@ -210,8 +212,8 @@ fn count_right(
     Ok((steps.len(), 0))
 }
 
-/// Plays the steps at a new device with these listed masks. What a failure shows is the place of the step, and the place of
-/// what isn't seen as it should.
+/// Plays the steps at a new device with these listed masks. A failure shows the place of the step, and the place of the sight
+/// that isn't as it should be.
 pub(crate) fn check_steps(
     rt: &impl Abort,
     alloc: Global,

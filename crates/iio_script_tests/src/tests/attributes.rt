@@ -4,7 +4,7 @@ use crate::tests::devices::{ADC, COUNTED};
 use crate::tests::playing::check_rows;
 use std::test::Fail;
 
-/// Attributes that are written before the first step; the last write of one stands.
+/// Attributes that are written before the first step; the last write of each counts.
 const WRITTEN: &str = "trigger t0 1
 device d t0
 channel temp le:s8/8>>0

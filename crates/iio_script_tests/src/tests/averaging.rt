@@ -14,7 +14,7 @@ row 2000 4 2 -4
 average avg0 adc0 2
 ";
 
-/// One over three captures, of one channel.
+/// An averaging device over three captures, of one channel.
 const THIRDS: &str = "trigger t0 2
 device adc0 t0
 channel voltage0 le:s8/8>>0
@@ -30,7 +30,7 @@ row 9 -8
 average avg0 adc0 3
 ";
 
-/// One whose sums don't fit 64 bits.
+/// An averaging device whose sums don't fit in 64 bits.
 const ENDS: &str = "trigger t0 2
 device adc0 t0
 channel voltage0 le:s64/64>>0
@@ -42,7 +42,7 @@ row 4 -9223372036854775807 1
 average avg0 adc0 2
 ";
 
-/// One of elements of up to 16 bytes, with a timestamp.
+/// An averaging device of elements of up to 16 bytes, with a timestamp.
 const REPEATED: &str = "trigger t0 2
 device adc0 t0
 channel voltage0 le:s64/64X2>>0
@@ -54,7 +54,7 @@ row 5 3 -5 2 3 4 5 6 7 8 9 10
 average avg0 adc0 2
 ";
 
-/// One over a base that lists masks.
+/// An averaging device over a base that lists masks.
 const LISTED: &str = "trigger t0 2
 device adc0 t0
 channel voltage0 le:u8/8>>0
@@ -67,7 +67,7 @@ row 2 3 4 5
 average avg0 adc0 2
 ";
 
-/// One over a base of which no listed mask has all channels.
+/// An averaging device over a base none of whose listed masks has all channels.
 const PART: &str = "trigger t0 2
 device adc0 t0
 channel voltage0 le:u8/8>>0
@@ -80,7 +80,7 @@ row 2 3 4 5
 average avg0 adc0 2
 ";
 
-/// Three over two devices, on a trigger with one place.
+/// Three averaging devices over two devices, on a trigger with one place.
 const PLACES: &str = "trigger t0 1
 device adc0 t0
 channel voltage0 le:s8/8>>0
@@ -91,7 +91,7 @@ average avg1 adc0 3
 average avg2 adc1 3
 ";
 
-/// Two over one base.
+/// Two averaging devices over one base.
 const TWO: &str = "trigger t0 2
 device adc0 t0
 channel voltage0 le:s8/8>>0
@@ -106,7 +106,7 @@ average pairs adc0 2
 average thirds adc0 3
 ";
 
-/// One beside an input and an output device.
+/// An averaging device beside an input and an output device.
 const COMMANDS: &str = "trigger t0 2
 device adc0 t0
 channel voltage0 le:s8/8>>0
@@ -117,7 +117,7 @@ channel voltage0 le:u8/8>>0
 average avg0 adc0 2
 ";
 
-/// One over a driver of which the second ask fails.
+/// An averaging device over a driver whose second ask fails.
 const DRIVEN: &str = "trigger t0 2
 device adc0 t0
 channel voltage0 le:s16/16>>0

@@ -1,11 +1,11 @@
-//! Each command in each state of a device, and what it is answered.
+//! Each command in each state of a device, and its answers.
 
 use crate::tests::playing::{check_play, joined};
 use std::alloc::Global;
 use std::process::Abort;
 use std::test::Fail;
 
-/// Two triggers, and a device on the first of them. A scan of its first channel has 2 bytes.
+/// Two triggers, and a device on the first one. A scan of the device's first channel has 2 bytes.
 const INPUT: &str = r#"context "<c/>"
 trigger t 1
 trigger u 1
@@ -16,7 +16,7 @@ timestamp
 %%
 "#;
 
-/// The same with an output device.
+/// Like `INPUT`, with an output device.
 const OUTPUT: &str = r#"context "<c/>"
 trigger t 1
 trigger u 1
@@ -26,8 +26,8 @@ channel temp le:s8/8>>0
 %%
 "#;
 
-/// Steps before the command of A, and what they print: the device is plugged and not open; open here; open by another; open
-/// here and unplugged; not open and unplugged.
+/// Steps before A's command, and what they print. In these states the device is plugged and not open; open here; open
+/// elsewhere; open here and unplugged; not open and unplugged.
 const STATES: [(&str, &str); 5] = [
     ("", ""),
     (
@@ -53,7 +53,7 @@ d unplugged
     ("unplug d\n", "d unplugged\n"),
 ];
 
-/// Lines, a WRITE's or WRITEBUF's with its payload, and their answers in these states at an input device.
+/// Lines, with the payload of a WRITE or WRITEBUF, and their answers in these states at an input device.
 const COMMANDS: &[(&str, [&str; 5])] = &[
     (r"OPEN d 1 00000001\n", ["0", "-16", "0", "-19", "-19"]),
     (
@@ -276,7 +276,7 @@ const COMMANDS: &[(&str, [&str; 5])] = &[
     ),
 ];
 
-/// The same at an output device.
+/// Like `COMMANDS`, at an output device.
 const OUTPUT_COMMANDS: &[(&str, [&str; 5])] = &[
     (r"OPEN d 1 00000001\n", ["0", "-16", "-16", "-19", "-19"]),
     (
@@ -425,7 +425,7 @@ const OUTPUT_COMMANDS: &[(&str, [&str; 5])] = &[
     (r"REMASK d 0000000g\n", ["-38", "-38", "-38", "-19", "-19"]),
 ];
 
-/// Lines that are answered the same in each of these states: no device is named, or an unknown one, or the form is wrong.
+/// Lines that have the same answer in each of these states: no device is named, or an unknown one, or the form is wrong.
 const PLAIN: &[(&str, &str)] = &[
     (
         r"HELP\n",
@@ -511,7 +511,7 @@ const PLAIN: &[(&str, &str)] = &[
     (r"REMASK d 00000001 x\n", r"-22\n"),
 ];
 
-// A line of A in one of the states of a described device, and what is printed of it: the answer, and what ends it.
+// Checks what is printed for a line of A in one of the states of a described device: the answer, and what ends it.
 fn check_command(
     rt: &impl Abort,
     alloc: Global,
@@ -527,7 +527,7 @@ fn check_command(
     check_play(rt, alloc, line, text, printed.as_slice(), 0)
 }
 
-// In each of the states, which is made again for each line.
+// Checks lines in each of the states, which is set up again for each line.
 fn check_commands(
     rt: &impl Abort,
     alloc: Global,

@@ -1,4 +1,4 @@
-//! Descriptions: lines that are refused, and the most of each.
+//! Descriptions: refused lines, and the largest number of each kind of line.
 
 ghost use Rattle.std.specs.Prelude.{◌+◌, ◌-◌, ◌^◌, ◌<◌, ◌≤◌};
 ghost use Rattle.iio_desc.specs.DescReader.{line_count};
@@ -16,7 +16,8 @@ const OUT: &str = "trigger t0 8\noutput dac0 t0\nchannel voltage0 le:u16/16>>0\n
 
 const AVG: &str = "device adc0 -\nchannel voltage0 le:u12/16>>4\naverage avg0 adc0 2\n";
 
-/// Lines of a description after others, and how they are refused: for each line of the table, each of its checks in order.
+/// Lines of a description after other lines, and how they are
+/// refused: for each line of the table, each of its checks in order.
 const REFUSED: &[(&str, &str, &str)] = &[
     ("", "context \"a\\x7\"\n\tx\n", "refused 1 text\n"),
     ("# \t\n\n  \n", "frobnicate\n", "refused 4 word\n"),
@@ -241,8 +242,8 @@ fn refused_lines(rt: HostRuntime) -> Result<(), Fail> {
     Ok(())
 }
 
-/// A first text, how often a numbered line follows, the line before and after its number, a further line, and how that is
-/// refused, if it is: triggers, devices, channels.
+/// A first text, the number of numbered lines after it, what comes before and after the number in them, a further line, and
+/// how that is refused, if it is: triggers, devices, channels.
 const FULL: &[(&str, u32, &str, &str, &str, &str)] = &[
     ("", 16, "trigger t", " 1\n", "", ""),
     (
@@ -379,7 +380,7 @@ const FULL: &[(&str, u32, &str, &str, &str, &str)] = &[
     ),
 ];
 
-// That many numbered lines between a first text and a further line.
+// Makes a text with that many numbered lines between a first text and a further line.
 fn full_text(
     alloc: Global,
     head: &str,
@@ -406,7 +407,7 @@ fn full_descriptions(rt: HostRuntime) -> Result<(), Fail> {
     Ok(())
 }
 
-/// What stands before a line, its bytes, what is printed and the status.
+/// What comes before a line, the number of its bytes, what is printed, and the status.
 const LONG: &[(&str, usize, &str, u8)] = &[
     ("", 1_048_576, "", 0),
     ("", 1_048_577, "refused 1 long\n", 1),
@@ -425,7 +426,7 @@ fn long_lines_are_refused(rt: HostRuntime) -> Result<(), Fail> {
     Ok(())
 }
 
-// What a reader answers to a line. Nothing is known here of what the line says.
+// Returns a reader's answer to a line. The contract says nothing of what the line means.
 fn answer_to(reader: &mut DescReader, line: &[u8]) -> Result<(), DescFault>
     requires { line_count reader.old < 2 ^ 32 - 2 }
     ensures { line_count reader.new ≤ line_count reader.old + 1 }
@@ -433,7 +434,7 @@ fn answer_to(reader: &mut DescReader, line: &[u8]) -> Result<(), DescFault>
     reader.line(line)
 }
 
-// Devices of each kind, between each other.
+// Makes a description of devices of each kind, in mixed order.
 fn described_by_each_kind(alloc: Global) -> Result<Desc, DescFault> {
     let mut reader = DescReader::new(alloc, 0)?;
     answer_to(&mut reader, b"device a -")?;
@@ -447,7 +448,7 @@ fn described_by_each_kind(alloc: Global) -> Result<Desc, DescFault> {
     reader.finish()
 }
 
-// The base of an averaging device, and how many captures make a mean.
+// Returns the base of an averaging device, and the number of captures that make a mean.
 fn averaged(desc: &Desc, number: usize) -> Option<(u32, u32)> {
     match desc.averages.get(number) {
         None => None,
@@ -455,7 +456,8 @@ fn averaged(desc: &Desc, number: usize) -> Option<(u32, u32)> {
     }
 }
 
-// A device keeps its number whatever lines stand between; output devices come after all of them, and averaging devices last.
+// A device keeps its number whatever lines come between; output devices
+// are numbered after all input devices, and averaging devices last.
 #[test]
 fn devices_are_numbered_by_kind(rt: HostRuntime) -> Result<(), Fail> {
     let desc = described_by_each_kind(rt.alloc())?;
@@ -472,7 +474,7 @@ fn devices_are_numbered_by_kind(rt: HostRuntime) -> Result<(), Fail> {
     Ok(())
 }
 
-// The first fault of a description is the answer to each later line too.
+// After the first fault of a description, each later line has the same answer.
 #[test]
 fn refused_description_stays_refused(rt: HostRuntime) -> Result<(), Fail> {
     let refused = DescFault::Line {

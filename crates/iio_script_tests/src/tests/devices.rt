@@ -1,6 +1,6 @@
 //! Descriptions that several subjects use.
 
-/// One channel, with a value for each moment.
+/// One channel, with one value for each moment.
 pub(crate) const COUNTED: &str = "trigger t0 2
 device d t0
 channel voltage0 le:u8/8>>0

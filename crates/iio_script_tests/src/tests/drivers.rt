@@ -5,7 +5,7 @@ use std::alloc::Global;
 use std::process::Abort;
 use std::test::Fail;
 
-/// A device of the first driver.
+/// A device with the first driver.
 const RAMP: &str = "trigger t0 2
 device w t0
 channel voltage0 le:u16/16>>0
@@ -89,7 +89,7 @@ fn drivers_in_scripts(rt: HostRuntime) -> Result<(), Fail> {
     check_rows(&rt, rt.alloc(), ROWS)
 }
 
-// A script of the device of the first driver, whose listed asks fail.
+// Checks a script of the device with the first driver, whose listed asks fail.
 fn check_ramp(
     rt: &impl Abort,
     alloc: Global,
@@ -102,7 +102,7 @@ fn check_ramp(
     check_driven(rt, alloc, name, fails, text, printed)
 }
 
-// The second ask fails: nothing is captured, and the next one works.
+// If the second ask fails, nothing is captured, and the next one works.
 #[test]
 fn failing_driver(rt: HostRuntime) -> Result<(), Fail> {
     check_ramp(
@@ -128,7 +128,8 @@ A "4\n00000001\n\x01\x00\x03\x000\n"
     )
 }
 
-// Two connections get the same scans of the same asks. The fourth ask is that of the first `raw`: the captures were three.
+// Two connections get the same scans of the same asks. The fourth
+// ask is that of the first `raw`, since there were three captures.
 #[test]
 fn shared_failing_driver(rt: HostRuntime) -> Result<(), Fail> {
     check_ramp(
@@ -160,14 +161,14 @@ A "-5\n1\n0\n"
     )
 }
 
-/// The ask that fails, the words of the three handles, and what is read then.
+/// The ask that fails, the words of the three handlings, and what is read after them.
 const ASKS: &[(u64, [&str; 3], &str)] = &[
     (1, ["fault", "captured", "captured"], "\\x02\\x00\\x03\\x00"),
     (2, ["captured", "fault", "captured"], "\\x01\\x00\\x03\\x00"),
     (3, ["captured", "captured", "fault"], "\\x01\\x00\\x02\\x00"),
 ];
 
-// What the three captures print, and what is read then.
+// Returns what the three captures print, and what is read after them.
 fn printed_of(alloc: Global, handles: &[&str], scans: &str) -> Result<Vec<u8>, Fail> {
     let mut printed = joined(alloc, &["A \"0\\n\"\n"])?;
     for handle in handles {
@@ -184,7 +185,7 @@ fn printed_of(alloc: Global, handles: &[&str], scans: &str) -> Result<Vec<u8>, F
 const THREE_ASKS: &str =
     "A \"OPEN w 1 00000001\\n\"\nfire t0 1\nfire t0 2\nfire t0 3\nA \"READBUF w 8\\n\"\n";
 
-// Each ask fails in turn: nothing is captured at it, and the other two are read.
+// Each ask fails in turn: nothing is captured by it, and the other two captures are read.
 #[test]
 fn each_ask_fails(rt: HostRuntime) -> Result<(), Fail> {
     let alloc = rt.alloc();

@@ -4,7 +4,7 @@ use crate::tests::playing::{check_play, check_rows, joined, push, push_numbered}
 use std::alloc::Global;
 use std::test::Fail;
 
-/// Thresholds, and no holder of the events.
+/// A device with thresholds, and no holder of the events.
 const SENSED: &str = "trigger t0 2
 device e t0
 channel voltage0 le:u8/8>>0
@@ -27,7 +27,7 @@ row 2 5 -5
 row 3 9 5
 ";
 
-/// A device of a driver whose second ask fails, and a threshold of each of its channels.
+/// A device with a driver whose second ask fails, and a threshold for each of its channels.
 const FALTERING: &str = "device e -
 channel voltage0 le:u16/16>>0
 channel voltage1 le:u16/16>>0
@@ -149,7 +149,8 @@ fn events_in_scripts(rt: HostRuntime) -> Result<(), Fail> {
     check_rows(&rt, rt.alloc(), ROWS)
 }
 
-// A description whose value is 100 and 0 in turn at 34 moments, and a step that senses each; then 17 reads of events.
+// Makes a description whose value alternates between 100 and 0 at
+// 34 moments, and steps that sense each; then 17 reads of events.
 fn threshold_text(alloc: Global) -> Result<Vec<u8>, Fail> {
     let mut text = joined(
         alloc,
@@ -172,7 +173,7 @@ fn threshold_text(alloc: Global) -> Result<Vec<u8>, Fail> {
     Ok(text)
 }
 
-// What is printed for an event of that moment, with the code 0x0001000000000001.
+// Appends what is printed for an event of that moment, with the code 0x0001000000000001.
 fn push_event(alloc: Global, printed: &mut Vec<u8>, t: u32) -> Result<(), Fail> {
     let line = format!(in alloc;
         "A \"16\\n\\x01\\x00\\x00\\x00\\x00\\x00\\x01\\x00\\x{t:02x}\\x00\\x00\\x00\\x00\\x00\\x00\\x00\"\n"
@@ -180,7 +181,7 @@ fn push_event(alloc: Global, printed: &mut Vec<u8>, t: u32) -> Result<(), Fail> 
     push(printed, line.as_str())
 }
 
-// The first 16 events are kept.
+// Returns what is printed: the first 16 events are kept.
 fn threshold_printed(alloc: Global) -> Result<Vec<u8>, Fail> {
     let mut printed = joined(alloc, &["A \"0\\n2\\n1\\n\"\n"])?;
     for t in 1..=34u32 {

@@ -1,4 +1,4 @@
-//! The first example, and an overrun, from sources that give all at once and byte by byte.
+//! The first example, and an overrun, from sources that give everything at once or byte by byte.
 
 use crate::tests::playing::check_faults;
 use std::alloc::Global;
@@ -17,7 +17,7 @@ const OVERRUN: &[u8] =
 const OVERRUN_PRINTED: &[u8] =
     b"poll t accepted 0\nA \"-9\\n-22\\n-19\\n-22\\n0\\n-16\\n0\\n-11\\n-22\\n\"\npoll t accepted 1\nhandle t d captured\npoll t accepted 1\nhandle t d captured\npoll t accepted 1\nhandle t d captured\npoll t accepted 1\nhandle t d captured\npoll t accepted 1\nhandle t d captured\nA \"4\\n00000001\\nA\\x00B\\x004\\n00000001\\nC\\x00D\\x000\\n\"\n";
 
-// From a source that gives all at once, and from one that gives one byte a read.
+// Checks a text from a source that gives everything at once, and from one that gives one byte per read.
 fn check_example(rt: &impl Abort, alloc: Global, text: &[u8], printed: &[u8]) -> Result<(), Fail> {
     check_faults(rt, alloc, text, 1000, &[], &[], printed, 0)?;
     check_faults(rt, alloc, text, 1, &[], &[], printed, 0)

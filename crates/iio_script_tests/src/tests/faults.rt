@@ -7,14 +7,14 @@ use std::alloc::Global;
 use std::process::Abort;
 use std::test::Fail;
 
-/// The steps after the description of six lines and the line that ends it.
+/// The steps after the description, which has six lines, and the line that ends it.
 const STEPS: &str = r#"%%
 A "OPEN adc0 1 00000005\n"
 fire t0 1000
 A "READBUF adc0 8\n"
 "#;
 
-/// What they print, line by line of the script.
+/// What the steps print, for each line of the script.
 const PRINTED: &[&str] = &[
     "A \"0\\n\"\n",
     "poll t0 accepted 1\nhandle t0 adc0 captured\n",
@@ -25,7 +25,7 @@ fn usual(alloc: Global) -> Result<Vec<u8>, Fail> {
     joined(alloc, &[ADC, STEPS])
 }
 
-// How many lines end in a text.
+// Returns the number of lines that end in a text.
 fn ended_lines(text: &[u8]) -> usize {
     let mut lines = 0usize;
     for byte in text {
@@ -36,14 +36,14 @@ fn ended_lines(text: &[u8]) -> usize {
     lines
 }
 
-// What the script's first lines print, that many of them.
+// Returns what the first `lines` lines of a text print, of which `head` come before the steps.
 fn printed_by(alloc: Global, head: usize, lines: usize) -> Result<Vec<u8>, Fail> {
     let steps = lines.saturating_sub(head).min(PRINTED.len());
     joined(alloc, &PRINTED[..steps])
 }
 
-// One byte a read: each read fails in turn, up to the one after the last byte, and what the whole lines before it print was
-// written.
+// With one byte per read, each read fails in turn, up to the one after
+// the last byte, and what the whole lines before it print was written.
 fn check_reads(rt: &impl Abort, alloc: Global, text: &[u8]) -> Result<(), Fail> {
     let head = ended_lines(ADC.as_bytes()).saturating_add(1);
     for taken in 0..=text.len() {
@@ -64,7 +64,7 @@ fn check_writes(rt: &impl Abort, alloc: Global, text: &[u8]) -> Result<(), Fail>
     Ok(())
 }
 
-// The read and the write after the last ones aren't made.
+// The read and the write after the last ones don't take place.
 #[test]
 fn every_read_and_write_fails(rt: HostRuntime) -> Result<(), Fail> {
     let text = usual(rt.alloc())?;
@@ -75,7 +75,7 @@ fn every_read_and_write_fails(rt: HostRuntime) -> Result<(), Fail> {
     check_faults(&rt, rt.alloc(), &text, 1, &[reads], &[4], &printed, 0)
 }
 
-/// The steps, what of their text comes, what is printed and the status.
+/// A name, the number of bytes that are cut off the text's end, what is printed last, and the status.
 const CUT: &[(&str, usize, &str, u8)] = &[
     ("without its last LF", 1, "", 0),
     ("behind READBUF", 11, "refused 11 text\n", 1),
@@ -106,7 +106,7 @@ fn streamed_faults(rt: HostRuntime) -> Result<(), Fail> {
     Ok(())
 }
 
-/// The room of a sink, the write that fails, how much is written, and the status. The text has 80 bytes.
+/// The room of a sink, the write that fails, the number of bytes written, and the status. The text has 80 bytes.
 const WRITES: &[(usize, u64, usize, u8)] = &[
     (1000, 1, 0, 4),
     (0, 9, 0, 4),
@@ -116,7 +116,8 @@ const WRITES: &[(usize, u64, usize, u8)] = &[
     (80, 2, 80, 0),
 ];
 
-// What the first example writes to such a sink is a front part of what it prints: its bytes, and the number of the status.
+// What the first example writes to such a sink is a front part of
+// what it prints; returns its number of bytes and the exit code.
 fn written_to(alloc: Global, room: usize, failing: u64) -> Result<Option<(usize, u8)>, Fail> {
     let mut input = source(alloc, FIRST_PATH, 1000, &[])?;
     let mut output = sink(alloc, room, &[failing])?;
@@ -129,7 +130,7 @@ fn written_to(alloc: Global, room: usize, failing: u64) -> Result<Option<(usize,
     })
 }
 
-// A sink takes what it has room for, and the next write fails.
+// A sink takes as much as it has room for, and the next write fails.
 #[test]
 fn failing_writes_end_the_run(rt: HostRuntime) -> Result<(), Fail> {
     for (room, failing, taken, status) in WRITES {

@@ -1,4 +1,4 @@
-//! An input that comes in pieces, what is taken of it, and what is left.
+//! An input that comes in pieces, how much of it is taken, and how much is left.
 
 ghost use Rattle.std.specs.Prelude.{◌≤◌};
 
@@ -9,7 +9,7 @@ use std::alloc::Global;
 use std::process::Abort;
 use std::test::Fail;
 
-// A row that comes in such pieces.
+// Checks a row whose input comes in pieces of that size.
 fn check_pieces(
     rt: &impl Abort,
     alloc: Global,
@@ -25,7 +25,7 @@ fn check_pieces(
     check_faults(rt, alloc, &text, 65_536, &[], &[], printed, 0)
 }
 
-// The answers are the same, whatever the pieces.
+// The answers are the same for all pieces.
 #[test]
 fn pieces_make_no_difference(rt: HostRuntime) -> Result<(), Fail> {
     for rows in [masks::ROWS, queues::ROWS, triggers::ROWS] {
@@ -36,14 +36,14 @@ fn pieces_make_no_difference(rt: HostRuntime) -> Result<(), Fail> {
     Ok(())
 }
 
-// A line, one that is refused, and 200,000 line ends.
+// Makes a line, a line that is refused, and 200,000 line ends.
 fn refused_early(alloc: Global) -> Result<Vec<u8>, Fail> {
     let mut text = joined(alloc, &["%%\nfire\n"])?;
     push_many(alloc, &mut text, b'\n', 200_000)?;
     Ok(text)
 }
 
-// How much is taken of such an input, from a source that gives that many bytes a read.
+// Checks how much of such an input is taken from a source that gives that many bytes per read.
 fn check_left(rt: &impl Abort, alloc: Global, piece: usize, taken: usize) -> Result<(), Fail>
     requires { 1 ≤ piece }
 {
@@ -57,14 +57,14 @@ fn check_left(rt: &impl Abort, alloc: Global, piece: usize, taken: usize) -> Res
     Ok(())
 }
 
-// What is printed of an input, and the number that the run ends with.
+// Returns what is printed for an input, and the exit code of the run.
 fn ended_of(alloc: Global, input: &mut MemSource) -> Result<(Vec<u8>, u8), Fail> {
     let mut output = sink(alloc, 100, &[])?;
     let status = played(alloc, input, &mut output)?;
     Ok((output.written().to_vec(alloc)?, status.code()))
 }
 
-// A refused line leaves what stands after it in the source, but for the piece that it came in.
+// A refused line leaves what comes after it in the source, except for the piece that it came in.
 #[test]
 fn refused_lines_leave_the_rest(rt: HostRuntime) -> Result<(), Fail> {
     check_left(&rt, rt.alloc(), 1, 8)?;
@@ -72,7 +72,7 @@ fn refused_lines_leave_the_rest(rt: HostRuntime) -> Result<(), Fail> {
     check_left(&rt, rt.alloc(), 100_000, 65_536)
 }
 
-// That many LFs, and whether they are too many.
+// Checks that many LFs, and whether they are too many.
 fn check_line_ends(
     rt: &impl Abort,
     alloc: Global,

@@ -1,4 +1,4 @@
-//! What is kept of a text for the connection of a name.
+//! What is kept of a text for the connection of that name.
 
 use crate::tests::playing::joined;
 use iio_script::{Stop, kept};
@@ -7,7 +7,7 @@ use std::alloc::Global;
 use std::process::Abort;
 use std::test::Fail;
 
-/// Two devices on one trigger: six lines.
+/// Two devices on one trigger, in six lines.
 const LAB: &str = "trigger t 2
 device d t
 channel voltage0 le:u8/8>>0
@@ -16,7 +16,7 @@ channel voltage0 le:u8/8>>0
 %%
 ";
 
-// What is kept for A of these steps at `LAB`.
+// Checks what is kept for A of these steps at `LAB`.
 fn check_kept(
     rt: &impl Abort,
     alloc: Global,

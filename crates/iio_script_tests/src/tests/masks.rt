@@ -19,7 +19,7 @@ row 0 1 2 3 4 5
 
 const THREE_FIRES: &str = "fire t0 258\nfire t0 258\nfire t0 258\n";
 
-/// As many listed masks as there may be, and a context with a line feed.
+/// The maximum number of listed masks, and a context with a line feed.
 const SIXTEEN_MASKS: &str = r#"context "<a\x41\n/>"
 trigger t0 2
 device d t0
@@ -97,7 +97,7 @@ fn masks_in_scripts(rt: HostRuntime) -> Result<(), Fail> {
     check_rows(&rt, rt.alloc(), ROWS)
 }
 
-/// Masks of `FIVE`, the bytes of three scans under each, and a scan at the moment 258.
+/// Masks of `FIVE`, the number of bytes of three scans under each, and a scan at the moment 258.
 const SHARED: [(&str, u32, &str); 3] = [
     (
         "00000021",
@@ -112,7 +112,7 @@ const SHARED: [(&str, u32, &str); 3] = [
     ),
 ];
 
-// The mask of a connection, the bytes of its scans and one of them: by turns the three.
+// Returns the mask of a connection, the bytes of its scans and one of them: the three rows take turns.
 fn shared_by(number: u32) -> (&'static str, u32, &'static str) {
     match number % 3 {
         0 => SHARED[0],
@@ -121,7 +121,7 @@ fn shared_by(number: u32) -> (&'static str, u32, &'static str) {
     }
 }
 
-// Each opens the device, the trigger is fired three times, and each reads.
+// Makes a script in which each connection opens the device, the trigger is fired three times, and each connection reads.
 fn shared_text(alloc: Global) -> Result<Vec<u8>, Fail> {
     let mut text = joined(alloc, &[FIVE, "%%\n"])?;
     for number in 0..64u32 {
@@ -139,7 +139,7 @@ fn shared_text(alloc: Global) -> Result<Vec<u8>, Fail> {
     Ok(text)
 }
 
-// What a connection reads: three scans.
+// Appends what a connection reads: three scans.
 fn push_block(alloc: Global, printed: &mut Vec<u8>, number: u32) -> Result<(), Fail> {
     let (mask, bytes, scan) = shared_by(number);
     push_numbered(alloc, printed, "c", number, " \"")?;
@@ -166,7 +166,7 @@ fn shared_printed(alloc: Global) -> Result<Vec<u8>, Fail> {
     Ok(printed)
 }
 
-// As many connections as may have names, on one device: each reads its own scans.
+// The maximum number of connections on one device: each reads its own scans.
 #[test]
 fn sixty_four_connections(rt: HostRuntime) -> Result<(), Fail> {
     let text = shared_text(rt.alloc())?;

@@ -10,7 +10,7 @@ use std::process::Abort;
 use std::str;
 use std::test::Fail;
 
-/// The bytes of texts, one after the other.
+/// Returns the bytes of texts, one after the other.
 pub(crate) fn joined(alloc: Global, texts: &[&str]) -> Result<Vec<u8>, Fail> {
     let mut bytes = Vec::new(alloc);
     for text in texts {
@@ -37,7 +37,7 @@ pub(crate) fn push_numbered(
     push(text, line.as_str())
 }
 
-/// Appends that many times a byte.
+/// Appends a byte that many times.
 pub(crate) fn push_many(
     alloc: Global,
     text: &mut Vec<u8>,
@@ -49,7 +49,7 @@ pub(crate) fn push_many(
     Ok(())
 }
 
-// That many channels of one type.
+// Appends that many channels of one type.
 fn push_channels(alloc: Global, text: &mut Vec<u8>, count: u32, ty: &str) -> Result<(), Fail> {
     for number in 0..count {
         push_numbered(alloc, text, "channel voltage", number, " ")?;
@@ -59,7 +59,7 @@ fn push_channels(alloc: Global, text: &mut Vec<u8>, count: u32, ty: &str) -> Res
     Ok(())
 }
 
-/// A device on t0 with that many channels of one type, what stands behind them, and the line that ends a description.
+/// Makes a device on t0 with that many channels of one type, what comes after them, and the line that ends a description.
 pub(crate) fn wide(
     alloc: Global,
     name: &str,
@@ -81,7 +81,7 @@ fn push_ramp(alloc: Global, drivers: &mut Drivers) -> Result<(), Fail> {
     Ok(())
 }
 
-// A ramp whose asks of these numbers fail.
+// Adds a ramp whose asks with these numbers fail.
 fn push_failing(alloc: Global, drivers: &mut Drivers, fails: &[u64]) -> Result<(), Fail> {
     drivers.push(Box::new(alloc, Failing::new(fails.to_vec(alloc)?))?)?;
     Ok(())
@@ -97,7 +97,7 @@ fn four_drivers(alloc: Global) -> Result<Drivers, Fail> {
     Ok(drivers)
 }
 
-/// How a script ends, over a source and a sink.
+/// Plays a script over a source and a sink, and returns how it ends.
 pub(crate) fn played(
     alloc: Global,
     input: &mut MemSource,
@@ -107,7 +107,7 @@ pub(crate) fn played(
     Ok(play(alloc, input, drivers, output))
 }
 
-// The same with one driver: a ramp whose asks of these numbers fail.
+// Like `played`, with one driver: a ramp whose asks with these numbers fail.
 fn driven(
     alloc: Global,
     fails: &[u64],
@@ -119,8 +119,7 @@ fn driven(
     Ok(play(alloc, input, drivers, output))
 }
 
-// That a text was printed. `name` tells the row that fails, and the number of the first line that differs; both are counted
-// from 1.
+// Checks that a text was printed. `name` names the row that fails; lines are counted from 1.
 fn check_printed(rt: &impl Abort, name: &str, printed: &[u8], wanted: &[u8]) {
     if let (Ok(printed), Ok(wanted)) = (str::from_utf8(printed), str::from_utf8(wanted)) {
         for (before, (line, expected)) in printed.lines().zip(wanted.lines()).enumerate() {
@@ -130,7 +129,8 @@ fn check_printed(rt: &impl Abort, name: &str, printed: &[u8], wanted: &[u8]) {
     assert_eq!(rt; printed, wanted, "{name}");
 }
 
-/// Scripts with their names, each of which is played to its end: a description, the steps after it, and what they print.
+/// Checks scripts with their names, each of which is played to its
+/// end: a description, the steps after it, and what they print.
 pub(crate) fn check_rows(
     rt: &impl Abort,
     alloc: Global,
@@ -143,7 +143,7 @@ pub(crate) fn check_rows(
     Ok(())
 }
 
-/// What is printed for a text, and the number that the run ends with; `name` tells a row that fails.
+/// Checks what is printed for a text, and the exit code of the run; `name` names a row that fails.
 pub(crate) fn check_play(
     rt: &impl Abort,
     alloc: Global,
@@ -160,7 +160,7 @@ pub(crate) fn check_play(
     Ok(())
 }
 
-/// The same with one driver: a ramp whose asks of these numbers fail.
+/// Like `check_play`, with one driver: a ramp whose asks with these numbers fail.
 pub(crate) fn check_driven(
     rt: &impl Abort,
     alloc: Global,
@@ -177,8 +177,8 @@ pub(crate) fn check_driven(
     Ok(())
 }
 
-/// What is printed for a text that comes in pieces of that many bytes, where these reads and writes fail, and the number that
-/// the run ends with.
+/// Checks what is printed for a text that comes in pieces of that many
+/// bytes while these reads and writes fail, and the exit code of the run.
 pub(crate) fn check_faults(
     rt: &impl Abort,
     alloc: Global,
@@ -199,7 +199,7 @@ pub(crate) fn check_faults(
     Ok(())
 }
 
-/// A source that gives a text in pieces, of which these reads fail.
+/// Makes a source that gives a text in pieces, and fails these reads.
 pub(crate) fn source(
     alloc: Global,
     text: &[u8],
@@ -211,7 +211,7 @@ pub(crate) fn source(
     Ok(MemSource::new(text.to_vec(alloc)?, piece, fails.to_vec(alloc)?))
 }
 
-/// A sink with that much room, of which these writes fail.
+/// Makes a sink with that much room, which fails these writes.
 pub(crate) fn sink(alloc: Global, room: usize, fails: &[u64]) -> Result<MemSink, Fail> {
     Ok(MemSink::new(alloc, room, fails.to_vec(alloc)?)?)
 }

@@ -1,4 +1,4 @@
-//! Queues: what waits, what is lost, and how it is counted.
+//! Queues: waiting scans, lost scans, and how they are counted.
 
 use crate::tests::devices::COUNTED;
 use crate::tests::playing::{check_play, check_rows, push, wide};

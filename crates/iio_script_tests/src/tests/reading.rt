@@ -1,4 +1,4 @@
-//! What OPEN and READBUF answer.
+//! The answers to OPEN and READBUF.
 
 use crate::tests::devices::{ADC, BARE, NARROW};
 use crate::tests::playing::{check_play, joined};
@@ -11,8 +11,8 @@ const LOOSE: &str = "trigger t0 2\ndevice loose -\nchannel temp le:s16/16>>0\nro
 
 const CAPTURED: &str = "poll t0 accepted 1\nhandle t0 adc0 captured\n";
 
-/// A description, a script after it, and what the script prints: its first lines, the lines of one capture where there is
-/// one, and its last line.
+/// A description, a script after it, and what the script prints: its first
+/// lines, the lines of one capture if there is one, and its last line.
 const PLAYED: &[(&str, &str, &str, bool, &str)] = &[
     (
         ADC,
@@ -105,7 +105,7 @@ fn inputs_are_played(rt: HostRuntime) -> Result<(), Fail> {
     Ok(())
 }
 
-/// A line of a connection that opened nothing, and its answer. A scan of the device has 2 bytes.
+/// A line of a connection that has opened nothing, and its answer. A scan of the device has 2 bytes.
 const ANSWERS: &[(&str, &str)] = &[
     ("", ""),
     ("OPEN d 1 00000001", "0\\n"),

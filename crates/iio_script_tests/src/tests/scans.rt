@@ -76,7 +76,7 @@ fn largest_printed(alloc: Global) -> Result<Vec<u8>, Fail> {
     Ok(printed)
 }
 
-// The timestamp stands at 1,008: a scan of 1,024 bytes, of which the last eight are padding.
+// The timestamp is at 1,008: a scan of 1,024 bytes, the last eight of which are padding.
 #[test]
 fn largest_scan(rt: HostRuntime) -> Result<(), Fail> {
     let text = largest_text(rt.alloc())?;

@@ -1,5 +1,5 @@
-//! Connections in manner Server, which waits where a script is answered -11. They are carried out at a bench itself, since a
-//! script has the other manner.
+//! Connections in manner Server, which waits where the manner Script answers
+//! -11. They use a bench directly, since a script has the other manner.
 
 ghost use Rattle.std.specs.Prelude.{◌≡◌, ◌+◌, ◌-◌, ◌^◌, ◌<◌, ◌≤◌, IfOk, OnOk, length};
 ghost use Rattle.iio_desc.specs.DescReader.{drivers_of, line_count};
@@ -16,7 +16,7 @@ use std::alloc::Global;
 use std::process::Abort;
 use std::test::Fail;
 
-// Reads a line of a description. Nothing is known here of what it says.
+// Reads a line of a description. The contract says nothing of what it means.
 fn read_line(reader: &mut DescReader, line: &[u8]) -> Result<(), Fail>
     requires { line_count reader.old < 2 ^ 32 - 2 }
     ensures counted { line_count reader.new ≤ line_count reader.old + 1 }
@@ -26,7 +26,7 @@ fn read_line(reader: &mut DescReader, line: &[u8]) -> Result<(), Fail>
     Ok(())
 }
 
-// One device of one channel of one byte, which is another letter at each moment.
+// One device with one channel of one byte, which is a different letter at each moment.
 fn letters(alloc: Global) -> Result<Bench, Fail>
     ensures triggers { IfOk result (λ b. 1 ≤ length (front_of b).triggers) }
     ensures devices { IfOk result (λ b. 1 ≤ length (front_of b).devices) }
@@ -45,7 +45,7 @@ fn letters(alloc: Global) -> Result<Bench, Fail>
     Ok(Bench::new(alloc, desc, Vec::new(alloc))?)
 }
 
-// A poll that is accepted, and a capture.
+// Makes a poll that is accepted, and a capture.
 fn fire(rt: &impl Abort, bench: &mut Bench, t: i64)
     requires triggers { 1 ≤ length (front_of bench.old).triggers }
     requires devices { 1 ≤ length (front_of bench.old).devices }
@@ -58,7 +58,7 @@ fn fire(rt: &impl Abort, bench: &mut Bench, t: i64)
     );
 }
 
-// Feeds bytes, after which the answers are these, and the connection stands so.
+// Feeds bytes, and checks the answers and the state of the connection after them.
 fn hear(
     rt: &impl Abort,
     alloc: Global,
@@ -80,7 +80,7 @@ fn hear(
     Ok(())
 }
 
-// A connection that has opened the device.
+// Makes a connection that has opened the device.
 fn opened(rt: &impl Abort, alloc: Global, bench: &mut Bench) -> Result<Session<Seat>, Fail>
     ensures client { IfOk result (λ s. IsClient seen_of (front_of bench.new) s.client) }
     ensures front { front_of bench.new ≡ front_of bench.old }
@@ -98,7 +98,7 @@ fn opened(rt: &impl Abort, alloc: Global, bench: &mut Bench) -> Result<Session<S
     Ok(session)
 }
 
-// A READBUF that waits, what stands after it, and scans that come.
+// Feeds a READBUF that waits, and what comes after it; then scans come.
 fn hear_waiting(
     rt: &impl Abort,
     alloc: Global,
@@ -123,7 +123,7 @@ fn hear_waiting(
     hear(rt, alloc, a, bench, b"READBUF adc0 9\n", heard, Going::On)
 }
 
-// What stands after a READBUF that waits is kept. Once a scan came, a feed of no bytes is enough.
+// What comes after a READBUF that waits is kept. Once a scan has come, a feed of no bytes is enough.
 #[test]
 fn waits_and_goes_on(rt: HostRuntime) -> Result<(), Fail> {
     let mut bench = letters(rt.alloc())?;
@@ -133,7 +133,7 @@ fn waits_and_goes_on(rt: HostRuntime) -> Result<(), Fail> {
     Ok(())
 }
 
-// A READBUF that waits, the device that goes away, and the connection's end.
+// Feeds a READBUF that waits; then the device goes away, and the connection ends.
 fn hear_unplugged(
     rt: &impl Abort,
     alloc: Global,
@@ -153,7 +153,7 @@ fn hear_unplugged(
     hear(rt, alloc, a, bench, last, b"0\n", Going::Ended)
 }
 
-// A READBUF that waits at a device that goes away is answered, and so is what stands after it.
+// A READBUF that waits is answered when its device goes away, and so is what comes after it.
 #[test]
 fn unplugged_while_it_waits(rt: HostRuntime) -> Result<(), Fail> {
     let mut bench = letters(rt.alloc())?;
@@ -163,7 +163,7 @@ fn unplugged_while_it_waits(rt: HostRuntime) -> Result<(), Fail> {
     Ok(())
 }
 
-// One connection has the device and its events, is lost, and another one then has them.
+// One connection has the device and its events, and is lost; then another one has them.
 fn hear_two(
     rt: &impl Abort,
     alloc: Global,

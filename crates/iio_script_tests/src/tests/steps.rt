@@ -1,11 +1,12 @@
-//! Lines of a script that are refused, by the first of their checks that fails, and the most names of connections.
+//! Lines of a script that are refused, by the first of their checks
+//! that fails, and the maximum number of names of connections.
 
 use crate::tests::playing::{check_play, joined, push, push_many, push_numbered};
 use std::alloc::Global;
 use std::process::Abort;
 use std::test::Fail;
 
-/// Five lines, the last of which is a step.
+/// Five lines; the last of them is a step.
 const HEAD: &str = "trigger t 2
 device d t
 channel voltage0 le:u8/8>>0
@@ -13,8 +14,8 @@ channel voltage0 le:u8/8>>0
 clock 1
 ";
 
-/// A sixth line, and the word that it is refused with: each check of each step, in their order, and then lines that fail
-/// two of them.
+/// A sixth line, and the word with which it is refused: each check of
+/// each step, in their order, and then lines that fail two checks.
 const STEPS: &[(&str, &str)] = &[
     ("fire t\t1", "text"),
     ("fire", "count"),
@@ -112,7 +113,7 @@ const STEPS: &[(&str, &str)] = &[
     ("unplug \"\\n\"", "device"),
 ];
 
-// The answers of the steps before stand; the lines after it aren't looked at.
+// The answers of the steps before a refused line stand; the lines after it aren't looked at.
 #[test]
 fn refused_steps(rt: HostRuntime) -> Result<(), Fail> {
     for (line, why) in STEPS {
@@ -123,7 +124,7 @@ fn refused_steps(rt: HostRuntime) -> Result<(), Fail> {
     Ok(())
 }
 
-/// Lines, valid and refused ones, in two parts, and what they print where they aren't too long.
+/// Lines, accepted and refused ones, in two parts, and what they print if they aren't too long.
 const LINES: &[(&str, &str, &str, u8)] = &[
     ("fire", "t 1", "poll t accepted 0\n", 0),
     ("poll", "t 1", "poll t accepted 0\n", 0),
@@ -140,7 +141,7 @@ const LINES: &[(&str, &str, &str, u8)] = &[
     ("fire", "", "refused 6 count\n", 1),
 ];
 
-// Two parts of a line with spaces between, of `len` bytes in all.
+// Returns two parts of a line with spaces between them, of `len` bytes in all.
 fn spaced(alloc: Global, first: &str, last: &str, len: usize) -> Result<Vec<u8>, Fail> {
     let words = first.len().saturating_add(last.len());
     let mut text = joined(alloc, &[HEAD, first])?;
@@ -150,7 +151,7 @@ fn spaced(alloc: Global, first: &str, last: &str, len: usize) -> Result<Vec<u8>,
     Ok(text)
 }
 
-// What such a line prints.
+// Checks what such a line prints.
 fn check_line(
     rt: &impl Abort,
     alloc: Global,
@@ -165,7 +166,7 @@ fn check_line(
     check_play(rt, alloc, first, text, printed.as_slice(), status)
 }
 
-// A line may have 1,048,576 bytes. That one is too long is told before all else that is wrong with it.
+// A line may have 1,048,576 bytes. If it is too long, this is reported before all else that is wrong with it.
 #[test]
 fn long_steps(rt: HostRuntime) -> Result<(), Fail> {
     for (first, last, printed, status) in LINES {
@@ -200,7 +201,7 @@ const FURTHER: &[(&str, &str, u8)] = &[
     ("drop n0\nn0 \"\"\n", "n0 dropped\nn0 closed\n", 0),
 ];
 
-// Feeds of 64 names, between a first text and what follows.
+// Makes feeds of 64 names, between a first text and what follows.
 fn with_names(alloc: Global, head: &str, further: &str) -> Result<Vec<u8>, Fail> {
     let mut text = joined(alloc, &[head])?;
     for number in 0..64u32 {
@@ -210,7 +211,7 @@ fn with_names(alloc: Global, head: &str, further: &str) -> Result<Vec<u8>, Fail>
     Ok(text)
 }
 
-// There may be 64 names of connections, also of those that have ended; `drop` makes none.
+// There may be 64 names of connections, including those that have ended; `drop` adds none.
 #[test]
 fn sixty_four_names(rt: HostRuntime) -> Result<(), Fail> {
     for (lines, further, status) in FURTHER {

@@ -1,4 +1,4 @@
-//! A connection's stream in whatever pieces, its limits and its end.
+//! A connection's stream in any pieces, its limits and its end.
 
 use crate::tests::devices::{ADC, BARE, COUNTED};
 use crate::tests::playing::{check_play, check_rows, joined, played, push, push_many, sink};
@@ -92,7 +92,7 @@ fn streams_in_scripts(rt: HostRuntime) -> Result<(), Fail> {
     check_rows(&rt, rt.alloc(), ROWS)
 }
 
-/// The lines of a usual session before two captures and after them, and what each is answered.
+/// The lines of a usual session before two captures and after them, and their answers.
 const BEFORE: &[(&str, &str)] = &[
     ("VERSION\r\n", r"0.25.iiosim0\n"),
     ("ZPRINT\r\n", r"-22\n"),
@@ -117,7 +117,7 @@ pub(crate) struct Session {
     printed: Vec<u8>,
 }
 
-/// The bytes of lines.
+/// Returns the bytes of lines.
 pub(crate) fn stream_of(alloc: Global, lines: &[(&str, &str)]) -> Result<Vec<u8>, Fail> {
     let mut bytes = Vec::new(alloc);
     for (line, _) in lines {
@@ -126,7 +126,7 @@ pub(crate) fn stream_of(alloc: Global, lines: &[(&str, &str)]) -> Result<Vec<u8>
     Ok(bytes)
 }
 
-// Bytes from one place to another, each as an escape.
+// Appends the bytes from one place to another, each as an escape.
 fn push_escaped(
     alloc: Global,
     text: &mut Vec<u8>,
@@ -141,7 +141,7 @@ fn push_escaped(
     Ok(())
 }
 
-// The answers to the lines that end in the bytes from one place to another.
+// Appends the answers to the lines that end in the bytes from one place to another.
 fn push_answers(
     printed: &mut Vec<u8>,
     lines: &[(&str, &str)],
@@ -159,7 +159,7 @@ fn push_answers(
 }
 
 impl Session {
-    /// The description of the session.
+    /// Begins a session with its description.
     pub(crate) fn begun(alloc: Global, description: &str) -> Result<Session, Fail> {
         Ok(Session {
             text: joined(alloc, &["context \"<context/>\"\n", description, "%%\n"])?,
@@ -167,7 +167,7 @@ impl Session {
         })
     }
 
-    /// A step of A: the bytes of these lines from one place to another, each written as an escape. The lines that end in
+    /// Adds a step of A: the bytes of these lines from one place to another, each written as an escape. The lines that end in
     /// them are answered.
     pub(crate) fn piece(
         &mut self,
@@ -185,7 +185,7 @@ impl Session {
         push(&mut self.printed, "\"\n")
     }
 
-    /// A step of A for each byte of these lines.
+    /// Adds a step of A for each byte of these lines.
     pub(crate) fn bytes(&mut self, alloc: Global, lines: &[(&str, &str)]) -> Result<(), Fail> {
         let len = stream_of(alloc, lines)?.len();
         for (from, to) in (0..len).zip(1..=len) {
@@ -194,20 +194,20 @@ impl Session {
         Ok(())
     }
 
-    /// Steps, and what they print.
+    /// Adds steps, and what they print.
     pub(crate) fn steps(&mut self, steps: &str, printed: &str) -> Result<(), Fail> {
         push(&mut self.text, steps)?;
         push(&mut self.printed, printed)
     }
 
-    /// The end of the session, after its EXIT.
+    /// Ends the session, after its EXIT, and checks it.
     pub(crate) fn check(mut self, rt: &impl Abort, alloc: Global, name: &str) -> Result<(), Fail> {
         push(&mut self.printed, "A closed\n")?;
         check_play(rt, alloc, name, self.text, self.printed.as_slice(), 0)
     }
 }
 
-// Both halves of the session, each in two pieces.
+// Checks both halves of the session, each in two pieces.
 fn check_cut(
     rt: &impl Abort,
     alloc: Global,
@@ -224,7 +224,7 @@ fn check_cut(
     played.check(rt, alloc, name)
 }
 
-// Cut at every byte, CRs and LFs too.
+// The session is cut at every byte, CRs and LFs included.
 #[test]
 fn usual_session_in_any_pieces(rt: HostRuntime) -> Result<(), Fail> {
     let before = stream_of(rt.alloc(), BEFORE)?.len();
@@ -247,7 +247,7 @@ fn usual_session_byte_by_byte(rt: HostRuntime) -> Result<(), Fail> {
     played.check(&rt, rt.alloc(), "byte by byte")
 }
 
-// A payload of more than 65,536 bytes, and a line of more than 1,024.
+// Makes a payload of more than 65,536 bytes, and a line of more than 1,024.
 fn broken_text(alloc: Global) -> Result<Vec<u8>, Fail> {
     let mut text = joined(
         alloc,
@@ -273,7 +273,7 @@ A closed
     check_play(&rt, rt.alloc(), "broken_limits", text, printed, 0)
 }
 
-// The longest payload and the longest line, each in two steps.
+// Makes the longest payload and the longest line, each in two steps.
 fn kept_text(alloc: Global) -> Result<Vec<u8>, Fail> {
     let mut text = joined(
         alloc,
@@ -301,7 +301,7 @@ B "-22\n"
     check_play(&rt, rt.alloc(), "kept_limits", text, printed, 0)
 }
 
-// A text many times between two others.
+// Makes a text that is repeated between two others.
 fn repeated(
     alloc: Global,
     head: &str,
@@ -317,7 +317,7 @@ fn repeated(
     Ok(bytes)
 }
 
-// One step that sends 80,000 commands prints more than a million bytes, with memory for them.
+// One step that sends 80,000 commands prints more than a million bytes, if there is memory for them.
 #[test]
 fn a_step_of_many_answers(rt: HostRuntime) -> Result<(), Fail> {
     let alloc = rt.alloc();
@@ -331,7 +331,7 @@ fn a_step_of_many_answers(rt: HostRuntime) -> Result<(), Fail> {
     Ok(())
 }
 
-// A line of A of that many bytes.
+// Makes a line of A of that many bytes.
 fn long_command(alloc: Global, len: usize) -> Result<Vec<u8>, Fail> {
     let mut text = joined(alloc, &[BARE, "%%\nA \""])?;
     push_many(alloc, &mut text, b'x', len)?;
@@ -339,7 +339,7 @@ fn long_command(alloc: Global, len: usize) -> Result<Vec<u8>, Fail> {
     Ok(text)
 }
 
-// A connection's line has 1,024 bytes at most.
+// A connection's line has at most 1,024 bytes.
 #[test]
 fn long_commands_end_the_connection(rt: HostRuntime) -> Result<(), Fail> {
     for (len, printed) in [

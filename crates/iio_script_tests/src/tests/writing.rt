@@ -12,7 +12,7 @@ output dac0 t0
 channel voltage0 le:u16/16>>0
 ";
 
-/// One, whose line stands before that of an input device on the same trigger.
+/// An output device, whose line comes before that of an input device on the same trigger.
 const LAB: &str = "trigger t0 2
 output dac0 t0
 channel voltage0 le:u16/16>>0
@@ -300,8 +300,8 @@ fn writes_in_scripts(rt: HostRuntime) -> Result<(), Fail> {
     check_rows(&rt, rt.alloc(), ROWS)
 }
 
-/// Lines and payloads before two fires and after them, and what each is answered. A scan has two bytes, and four scans have
-/// room: of the second payload one scan is taken.
+/// Lines and payloads before two fires and after them, and their answers. A scan has two bytes, and there is room for four
+/// scans: of the second payload one scan is taken.
 const BEFORE: &[(&str, &str)] = &[
     ("OPEN dac0 1 00000001\r\n", r"0\n"),
     ("WRITEBUF dac0 6\r\nEXIT\n\n", r"6\n"),
@@ -326,7 +326,7 @@ poll t0 accepted 1
 handle t0 dac0 given 4954
 ";
 
-// Both halves, each in two pieces.
+// Checks both halves, each in two pieces.
 fn check_cut(rt: &impl Abort, alloc: Global, first: usize, second: usize) -> Result<(), Fail> {
     let mut played = Session::begun(alloc, DAC)?;
     played.piece(alloc, BEFORE, 0, first)?;
@@ -337,7 +337,7 @@ fn check_cut(rt: &impl Abort, alloc: Global, first: usize, second: usize) -> Res
     played.check(rt, alloc, "payloads are cut")
 }
 
-// Cut at every byte, of lines and payloads.
+// The stream is cut at every byte, within lines and payloads.
 #[test]
 fn payloads_in_any_pieces(rt: HostRuntime) -> Result<(), Fail> {
     let before = stream_of(rt.alloc(), BEFORE)?.len();
@@ -367,7 +367,7 @@ channel voltage0 le:u8/8>>0
 %%
 ";
 
-// A writer of the largest capacity fills it, or makes it its cycle, by the longest payload, in two steps.
+// A writer of the largest capacity fills it, or makes it its cycle, with the longest payload, in two steps.
 fn filled(alloc: Global, cyclic: &str) -> Result<Vec<u8>, Fail> {
     let opening = "A \"OPEN dac0 16384 00000001";
     let mut text = joined(
@@ -414,7 +414,7 @@ A "-16\n5\n65536\n"
     check_play(&rt, rt.alloc(), "a full cycle", text, printed, 0)
 }
 
-// A payload of more than 65,536 bytes ends the connection, whatever it is of.
+// A payload of more than 65,536 bytes ends the connection, whatever device it is for.
 #[test]
 fn large_payloads(rt: HostRuntime) -> Result<(), Fail> {
     for device in ["dac0", "none"] {

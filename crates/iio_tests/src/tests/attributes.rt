@@ -3,12 +3,12 @@
 use iio_attr::{Attr, Errno, Form, Name, Scope, check, find, writable};
 use std::test::Fail;
 
-// The name of a text, of which nothing more is known.
+// The name that a text is, with nothing more known of it.
 fn named(text: &[u8]) -> Option<Name> {
     Name::new(text)
 }
 
-// Whether a text is a name, and a copy of it the same.
+// Whether a text is a name, and a copy of the name equals it.
 fn is_name(text: &[u8]) -> bool {
     let Some(name) = named(text) else {
         return false;
@@ -41,7 +41,7 @@ fn names(rt: HostRuntime) -> Result<(), Fail> {
     Ok(())
 }
 
-/// A name in a scope, the attribute that it names, and whether that may be written.
+/// A name in a scope, the attribute that it names, and whether that can be written.
 const ROWS: &[(Scope, &str, Option<Attr>, bool)] = &[
     (Scope::Device, "name", Some(Attr::Name), false),
     (

@@ -1,4 +1,4 @@
-//! Means of captures. Expected values by hand, after the layout of docs/FORMATS.md.
+//! Means of captures. Expected values are by hand, after the layout of docs/FORMATS.md.
 ghost use Rattle.std.specs.Prelude.{◌≡◌, ◌+◌, ◌≤◌, ◌<◌, IfOk};
 ghost use Rattle.iio_tests.specs.Tested.{AreTested};
 
@@ -28,7 +28,7 @@ fn device(alloc: Global, types: [&str; 3], window: u32, size: usize) -> Result<A
     Ok(Average::new(alloc, shape, window)?)
 }
 
-// A member joins, whose scans have `size` bytes; at most one scan waits. At most `most` offers were made to any queue.
+// Adds a member whose scans have `size` bytes; at most one scan waits. At most `most` offers were made to any queue.
 fn join(
     rt: &impl Abort,
     device: &mut Average,
@@ -48,7 +48,7 @@ fn join(
     Ok(device.join(mask, 1)?)
 }
 
-// A capture of these values is added; before it at most `most` offers were made to any queue.
+// Adds a capture of these values; before it at most `most` offers were made to any queue.
 fn add(
     rt: &impl Abort,
     device: &mut Average,
@@ -71,7 +71,7 @@ fn add(
     device.add(&room[..bytes])
 }
 
-// The oldest scan of a member, where one waits.
+// Takes the oldest scan of a member, if one waits.
 fn take(
     rt: &impl Abort,
     device: &mut Average,
@@ -88,7 +88,7 @@ fn take(
     (taken == Some(true), room)
 }
 
-// A member joins, and has that number.
+// Adds a member, and checks its number.
 fn check_join(
     rt: &impl Abort,
     device: &mut Average,
@@ -105,7 +105,7 @@ fn check_join(
     Ok(())
 }
 
-// A member leaves, where it is there.
+// Removes a member, and checks whether it was there.
 fn check_leave(
     rt: &impl Abort,
     device: &mut Average,
@@ -120,7 +120,7 @@ fn check_leave(
     assert_eq!(rt; device.leave(number), is_there);
 }
 
-// A capture is added, and that many members are offered a mean, if any is made.
+// Adds a capture, and checks how many members are offered a mean, if any is made.
 fn check_add(
     rt: &impl Abort,
     device: &mut Average,
@@ -138,7 +138,7 @@ fn check_add(
     assert_eq!(rt; given, made, "at {t}");
 }
 
-// The oldest scan of a member is this.
+// Checks the oldest scan of a member.
 fn check_take(
     rt: &impl Abort,
     device: &mut Average,
@@ -155,7 +155,7 @@ fn check_take(
     assert_eq!(rt; &room[..size], scan);
 }
 
-// The mean of two captures, at 1000 and at 2000, in the scan of a member of that mask.
+// Checks the mean of two captures, at 1000 and at 2000, in the scan of a member with that mask.
 fn check_mean(
     rt: &impl Abort,
     alloc: Global,
@@ -180,12 +180,12 @@ fn check_mean(
 fn averaged_pairs(rt: HostRuntime) -> Result<(), Fail> {
     let pair = [[1, 2, -3], [4, 2, -4]];
     let rows: [(u64, [[i64; 3]; 2], &[u8]); 5] = [
-        // 2, 2 and -3: rounded towards zero.
+        // 2, 2 and -3, rounded towards zero.
         (5, pair, b"\x20\x00\xff\xfd"),
         (3, pair, b"\x20\x00\x02\x00"),
         (6, [[0, -128, 7], [0, -127, 8]], b"\x81\x00\x00\x07"),
         (2, [[0, 127, 0], [0, 126, 0]], b"\x7e"),
-        // At the second one's moment.
+        // At the second capture's moment.
         (
             9,
             pair,
@@ -198,7 +198,7 @@ fn averaged_pairs(rt: HostRuntime) -> Result<(), Fail> {
     Ok(())
 }
 
-// Values at the ends of 64 and of 63 bits, whose sums have more.
+// Values at the ends of 64 and of 63 bits, whose sums need more bits.
 #[test]
 fn ends_of_values(rt: HostRuntime) -> Result<(), Fail> {
     let types = ["le:s64/64>>0", "be:u63/64>>0", "le:u8/8>>0"];
@@ -230,7 +230,7 @@ fn ends_of_values(rt: HostRuntime) -> Result<(), Fail> {
     Ok(())
 }
 
-// The second member joins within a window, and is offered that window's mean too. A full queue loses what it is offered.
+// A second member joins within a window, and is offered that window's mean too. A full queue loses what it is offered.
 #[test]
 fn two_members(rt: HostRuntime) -> Result<(), Fail> {
     let mut device = device(rt.alloc(), TYPES, 2, 4)?;
@@ -248,7 +248,7 @@ fn two_members(rt: HostRuntime) -> Result<(), Fail> {
     Ok(())
 }
 
-// When the last member leaves, the window begins anew; a number that is free is given again.
+// When the last member leaves, the window begins anew; a free number is given again.
 #[test]
 fn window_anew(rt: HostRuntime) -> Result<(), Fail> {
     let mut device = device(rt.alloc(), TYPES, 3, 4)?;

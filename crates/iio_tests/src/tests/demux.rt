@@ -27,7 +27,7 @@ fn entry(from: u32, to: u32, length: u32) -> Entry {
     Entry { from, to, length }
 }
 
-// The table from an active mask to a buffer's, as it is built.
+// The table from an active mask to a buffer's mask, as it is built.
 fn built(alloc: Global, shape: &Shape, active: Mask, buffer: Mask) -> Result<Table, Fail>
     requires below { active.bits < 2 ^ count_of shape.now }
     requires within { is_within buffer.bits active.bits ≡ true }
@@ -35,7 +35,7 @@ fn built(alloc: Global, shape: &Shape, active: Mask, buffer: Mask) -> Result<Tab
     Ok(Table::build(alloc, shape, active, buffer)?)
 }
 
-// The same as it is remade from that of the active mask alone.
+// The same table, remade from the one of the active mask alone.
 fn remade(alloc: Global, shape: &Shape, active: Mask, buffer: Mask) -> Result<Table, Fail>
     requires below { active.bits < 2 ^ count_of shape.now }
     requires within { is_within buffer.bits active.bits ≡ true }
@@ -46,7 +46,7 @@ fn remade(alloc: Global, shape: &Shape, active: Mask, buffer: Mask) -> Result<Ta
     Ok(table)
 }
 
-// What a table makes of an active scan, over other bytes.
+// What a table makes of an active scan, written over other bytes.
 fn copied(rt: &impl Abort, alloc: Global, table: &Table, scan: &[u8]) -> Result<Vec<u8>, Fail> {
     assert!(rt; scan.len() == table.active_size() as usize);
     let mut out = vec![in alloc; 0xffu8; table.buffer_size() as usize]?;
@@ -54,7 +54,7 @@ fn copied(rt: &impl Abort, alloc: Global, table: &Table, scan: &[u8]) -> Result<
     Ok(out)
 }
 
-// The bytes of a scan under each of two masks.
+// The sizes of the scans under two masks.
 fn sizes_of(shape: &Shape, active: Mask, buffer: Mask) -> (usize, usize)
     requires active { active.bits < 2 ^ count_of shape.now }
     requires buffer { buffer.bits < 2 ^ count_of shape.now }
@@ -64,7 +64,7 @@ fn sizes_of(shape: &Shape, active: Mask, buffer: Mask) -> (usize, usize)
     (whole as usize, part as usize)
 }
 
-// Both tables: their entries, and what they make of the active scan.
+// Checks both tables: their entries, and what they make of the active scan.
 fn check_table(
     rt: &impl Abort,
     alloc: Global,
@@ -88,7 +88,7 @@ fn check_table(
     Ok(())
 }
 
-// Neighbours in both scans are one entry; a channel between them that isn't copied, or padding, parts them.
+// Neighbours in both scans share an entry; a channel between them that isn't copied, or padding, separates them.
 #[test]
 fn merged_tables(rt: HostRuntime) -> Result<(), Fail> {
     let shape = device(rt.alloc())?;

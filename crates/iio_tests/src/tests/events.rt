@@ -1,4 +1,4 @@
-//! Thresholds and events. Expected values by hand, after docs/FORMATS.md.
+//! Thresholds and events. Expected values are by hand, after docs/FORMATS.md.
 ghost use Rattle.std.specs.Prelude.{◌≡◌, length, IfOk};
 
 use iio_event::{Edge, EventData, Monitor, code};
@@ -86,7 +86,7 @@ fn codes(rt: HostRuntime) {
     );
 }
 
-// Senses these values of voltage0 in turn, each with the number of events that is to fire.
+// Senses these values of voltage0 in turn, and checks how many events fire at each.
 fn sense_all(rt: &impl Abort, monitor: &mut Monitor, values: &[(i64, u32)])
     requires { length monitor.old.channels ≡ 2 }
     ensures { length monitor.new.channels ≡ 2 }

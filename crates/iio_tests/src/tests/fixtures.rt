@@ -9,7 +9,7 @@ use iio_scan_type::read_type;
 use std::process::Abort;
 use std::test::Fail;
 
-/// An input of that type.
+/// An input channel of that type.
 pub(crate) fn voltage(number: u16, ty: &str) -> Result<Channel, Fail> {
     Ok(Channel {
         kind: Kind::Voltage,
@@ -19,7 +19,7 @@ pub(crate) fn voltage(number: u16, ty: &str) -> Result<Channel, Fail> {
     })
 }
 
-/// The mask of a text, for the channels of a shape.
+/// The mask that a text says, for the channels of a shape.
 pub(crate) fn mask_of(rt: &impl Abort, shape: &Shape, text: &str) -> Result<Mask, Fail>
     ensures { IfOk result (λ mask. mask.bits < 2 ^ count_of shape.now) }
 {

@@ -34,7 +34,7 @@ fn adc(alloc: Global) -> Result<Shape, Fail> {
     Ok(shape.ok_or("no shape")?)
 }
 
-// As many channels voltage0, voltage1 and so on of one type.
+// Channels voltage0, voltage1 and so on, of one type.
 fn voltages(
     alloc: Global,
     count: u16,
@@ -50,7 +50,7 @@ fn voltages(
     Ok(Shape::new(channels, stamp, Vec::new(alloc)))
 }
 
-// A scan under a mask of these values and this moment.
+// The scan of these values and this moment under a mask.
 fn scan_of(
     rt: &impl Abort,
     alloc: Global,
@@ -68,7 +68,7 @@ fn scan_of(
     Ok(out)
 }
 
-// Fills a buffer of other bytes, and compares.
+// Fills a buffer that holds other bytes, and checks it.
 fn check_scan(
     rt: &impl Abort,
     alloc: Global,
@@ -83,7 +83,7 @@ fn check_scan(
     Ok(())
 }
 
-/// Masks of `adc`, and its scans of 1, 2 and -3 at 1000.
+/// Masks of `adc`, and its scans of the values 1, 2 and -3 at 1000.
 const ADC_SCANS: &[(&str, &[u8])] = &[
     ("00000005", b"\x10\x00\xff\xfd"),
     (
@@ -143,7 +143,7 @@ fn sixteen_byte_channel(rt: HostRuntime) -> Result<(), Fail> {
     Ok(())
 }
 
-// Bytes of 1 and 16: the second channel stands at 16.
+// Channels of 1 and 16 bytes: the second one stands at 16.
 #[test]
 fn sixteen_bytes_after_one(rt: HostRuntime) -> Result<(), Fail> {
     let alloc = rt.alloc();
@@ -161,7 +161,7 @@ fn sixteen_bytes_after_one(rt: HostRuntime) -> Result<(), Fail> {
     )
 }
 
-/// How many channels of one type, a mask of them, and the bytes of a scan.
+/// The number of channels of one type, a mask of them, and the size of a scan.
 const SIZES: &[(u16, &str, &str, u32)] = &[
     (9, "le:s64/64>>0", "000001ff", 72),
     (1, "le:s32/32X2>>0", "00000001", 8),
@@ -211,7 +211,7 @@ const NO_IDS: &[&str] = &[
     "humidity0",
 ];
 
-// Whether an ID is read as these, and written from them.
+// Whether an ID is read as this kind and suffix, and written from them.
 fn is_id(alloc: Global, text: &str, kind: Kind, suffix: Suffix) -> Result<bool, Fail> {
     let mut out = Vec::new(alloc);
     write_id(&mut out, kind, suffix)?;
@@ -230,7 +230,7 @@ fn ids(rt: HostRuntime) -> Result<(), Fail> {
     Ok(())
 }
 
-// Whether there is a shape of these.
+// Whether these make a shape.
 fn accepts(
     alloc: Global,
     channels: &[Channel],

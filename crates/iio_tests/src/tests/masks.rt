@@ -20,7 +20,7 @@ const READ: &[(&str, u32, u64, &str)] = &[
     ),
 ];
 
-// Whether these are the digits of a text, and zeros after eight of them.
+// Whether these are the digits of a text, with zeros after the first eight of them.
 fn is_padded(digits: &[u8; 16], text: &[u8]) -> bool {
     if text.len() == 8 {
         &digits[..8] == text && &digits[8..] == [0u8; 8].as_slice()
@@ -29,7 +29,7 @@ fn is_padded(digits: &[u8; 16], text: &[u8]) -> bool {
     }
 }
 
-// Whether a text is read as these bits, and the mask is printed so.
+// Whether a text is read as these bits, and the mask is printed as `printed`.
 fn is_read(
     rt: &impl Abort,
     alloc: Global,

@@ -1,4 +1,4 @@
-//! Writers and what a device is given. Expected values by hand, after the layout of docs/FORMATS.md.
+//! Writers, and what a device is given. Expected values are by hand, after the layout of docs/FORMATS.md.
 ghost use Rattle.std.specs.Prelude.{◌≡◌, ◌≤◌, ◌<◌, ◌^◌, length, IfOk};
 ghost use Rattle.iio_layout.specs.Shape.{count_of};
 
@@ -10,7 +10,7 @@ use std::alloc::Global;
 use std::process::Abort;
 use std::test::Fail;
 
-// What is done at a device, and what comes of it.
+// What is done at a device, and what is expected of it.
 #[derive(Clone, Copy)]
 enum Step {
     Write(&'static [u8], Wrote),
@@ -45,7 +45,7 @@ fn two_voltages(alloc: Global) -> Result<Out, Fail>
     Ok(Out::new(alloc, shape)?)
 }
 
-// Starts a writer of the channels of the mask, which has one of the first two.
+// Starts a writer of the channels of the mask, which has at least one of the first two.
 fn start(
     rt: &impl Abort,
     device: &mut Out,
@@ -65,7 +65,7 @@ fn start(
     device.start(mask, capacity, cyclic)
 }
 
-// What the device is given next, in the first bytes of the room.
+// Gives the device its next scan, in the first bytes of the room.
 fn next(rt: &impl Abort, device: &mut Out) -> (Next, usize, [u8; 8])
     requires { length device.old.shape.channels ≡ 2 }
     ensures { length device.new.shape.channels ≡ 2 }
@@ -81,7 +81,7 @@ fn next(rt: &impl Abort, device: &mut Out) -> (Next, usize, [u8; 8])
     (answer, size, room)
 }
 
-// Plays the steps at a writer of voltage0, and answers how many of them were underruns.
+// Plays the steps at a writer of voltage0, and returns how many of them were underruns.
 fn play(rt: &impl Abort, device: &mut Out, steps: &[Step]) -> u64
     requires { length device.old.shape.channels ≡ 2 }
     ensures { length device.new.shape.channels ≡ 2 }
@@ -109,7 +109,7 @@ fn play(rt: &impl Abort, device: &mut Out, steps: &[Step]) -> u64
     underruns
 }
 
-// Plays each row at a writer of its own, whose scans have two bytes and of which at most two wait.
+// Plays each row at a writer of its own, whose scans have two bytes; at most two scans wait.
 fn play_all(rt: &impl Abort, alloc: Global, cyclic: bool, rows: &[&[Step]]) -> Result<(), Fail> {
     for steps in rows {
         let mut device = two_voltages(alloc)?;
@@ -120,8 +120,8 @@ fn play_all(rt: &impl Abort, alloc: Global, cyclic: bool, rows: &[&[Step]]) -> R
     Ok(())
 }
 
-// Given in order, and then an underrun. The first scans that fit are taken, and none of a payload that isn't whole scans,
-// also where no scan fits.
+// Scans are given in order, and then comes an underrun. The first scans that fit are taken, and none of a payload that isn't
+// whole scans, even if no scan fits.
 #[test]
 fn playback(rt: HostRuntime) -> Result<(), Fail> {
     let rows: [&[Step]; 3] = [
@@ -152,7 +152,7 @@ fn playback(rt: HostRuntime) -> Result<(), Fail> {
     play_all(&rt, rt.alloc(), false, &rows)
 }
 
-// Round and round, and written once. A cycle has a scan, and no more than the capacity.
+// A cycle is given round and round, and written once. It has at least one scan, and at most as many as the capacity.
 #[test]
 fn cyclic_writers(rt: HostRuntime) -> Result<(), Fail> {
     let rows: [&[Step]; 2] = [
@@ -182,7 +182,7 @@ fn cyclic_writers(rt: HostRuntime) -> Result<(), Fail> {
     play_all(&rt, rt.alloc(), true, &rows)
 }
 
-// Element 0 of each channel, in the last scan given that has it. Under both channels voltage1 stands at byte 4.
+// Element 0 of each channel, in the last scan given that has the channel. Under both channels voltage1 stands at byte 4.
 #[test]
 fn last_of_each_channel(rt: HostRuntime) -> Result<(), Fail> {
     let mut device = two_voltages(rt.alloc())?;
@@ -205,7 +205,7 @@ fn last_of_each_channel(rt: HostRuntime) -> Result<(), Fail> {
     Ok(())
 }
 
-// One writer at a time; its end drops what waits, and the next one's underruns are counted from 0 again.
+// There is one writer at a time; its end drops what waits, and the next one's underruns are counted from 0 again.
 #[test]
 fn one_writer_at_a_time(rt: HostRuntime) -> Result<(), Fail> {
     let mut device = two_voltages(rt.alloc())?;

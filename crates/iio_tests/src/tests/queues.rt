@@ -1,4 +1,4 @@
-//! The largest queues. All else is played in `iio_script_tests`.
+//! The largest queues. Everything else is played in `iio_script_tests`.
 
 use iio_kfifo::{Kfifo, Offered, Tail};
 use std::test::Fail;

@@ -8,7 +8,7 @@ use iio_kfifo::{Ended, Mark, Offered, Reader, Tail, Writer, give_back, ring};
 use std::test::Fail;
 use std::thread;
 
-// A call at a ring of scans of one byte, and what it answers.
+// A call at a ring of scans of one byte, and what it is expected to return.
 #[derive(Drop)]
 enum Call {
     Offer(u8, Offered),
@@ -22,7 +22,7 @@ fn mark(seq: u64, number: u64, lost: u64) -> Mark {
     Mark { seq, number, lost }
 }
 
-// Makes a call, and says whether it answers as it should.
+// Makes a call, and returns whether its result is the expected one.
 fn is_right(writer: &mut Writer, reader: &mut Reader, call: &Call) -> bool
     requires size { (writer.old.size ≡ 1) × (reader.old.size ≡ 1) }
     requires fewer { length (accepted writer.old.knows.offers) + lost_in writer.old.knows.offers < 2 ^ 64 - 1 }
@@ -45,7 +45,7 @@ fn is_right(writer: &mut Writer, reader: &mut Reader, call: &Call) -> bool
     }
 }
 
-// Makes the calls in turn, and says how many answer as they should, up to the first that doesn't.
+// Makes the calls in turn, and returns how many have the expected result, up to the first that doesn't.
 fn count_right(writer: &mut Writer, reader: &mut Reader, calls: &[Call]) -> usize
     requires size { (writer.old.size ≡ 1) × (reader.old.size ≡ 1) }
     requires new { writer.old.knows ≡ new_writing }
@@ -61,7 +61,7 @@ fn count_right(writer: &mut Writer, reader: &mut Reader, calls: &[Call]) -> usiz
     calls.len()
 }
 
-// Three offers to a ring for two: the third is lost, and the mark of a later scan says so.
+// Three offers to a ring of two slots: the third is lost, and the mark of a later scan says so.
 #[test]
 fn ring_of_two(rt: HostRuntime) -> Result<(), Fail> {
     let (mut writer, mut reader) = ring(rt.alloc(), 2, 1)?;
@@ -82,7 +82,7 @@ fn ring_of_two(rt: HostRuntime) -> Result<(), Fail> {
     Ok(())
 }
 
-// A ring's one slot serves again.
+// The one slot of a ring is used again.
 #[test]
 fn ring_of_one(rt: HostRuntime) -> Result<(), Fail> {
     let (mut writer, mut reader) = ring(rt.alloc(), 1, 1)?;
@@ -100,7 +100,7 @@ fn ring_of_one(rt: HostRuntime) -> Result<(), Fail> {
     Ok(())
 }
 
-// A scan that was taken, one that waits, and one that was lost, at a ring for two.
+// A scan that was taken, one that waits, and one that was lost, at a ring of two slots.
 fn filling() -> [Call; 4] {
     [
         Call::Offer(b'a', Offered::Taken),
@@ -110,7 +110,7 @@ fn filling() -> [Call; 4] {
     ]
 }
 
-// What the reader is told, while the ring is open and once it is closed.
+// What the reader learns while the ring is open, and once it is closed.
 #[test]
 fn closed_ring(rt: HostRuntime) -> Result<(), Fail> {
     let (mut writer, mut reader) = ring(rt.alloc(), 2, 1)?;
@@ -133,7 +133,7 @@ fn ring_that_is_cut(rt: HostRuntime) -> Result<(), Fail> {
     Ok(())
 }
 
-// What is left is told beside what the writer left.
+// A reader that ends beside what its writer left counts the scans that are left.
 #[test]
 fn ring_that_ends_beside_its_writer(rt: HostRuntime) -> Result<(), Fail> {
     let (mut writer, mut reader) = ring(rt.alloc(), 2, 1)?;
@@ -154,7 +154,7 @@ fn offer_two(writer: &mut Writer, scan: &[u8; 2])
     writer.offer(scan);
 }
 
-// Takes scans of two bytes, up to a number.
+// Takes scans of two bytes, up to `most` of them.
 fn take_run(reader: &mut Reader, most: u32, out: &mut Vec<u8>) -> u32
     requires size { reader.old.size ≡ 2 }
     requires room { length out.old.items + most * 2 ≤ vec_capacity out.old }
@@ -166,7 +166,7 @@ fn take_run(reader: &mut Reader, most: u32, out: &mut Vec<u8>) -> u32
     reader.take_scans(most, out)
 }
 
-// Takes one scan of two bytes, where there is one.
+// Takes one scan of two bytes, if there is one.
 fn take_two(reader: &mut Reader) -> (Option<Mark>, [u8; 2])
     requires { reader.old.size ≡ 2 }
     ensures { reader.new.ring ≡ reader.old.ring }
@@ -200,7 +200,7 @@ fn runs_keep_their_order(rt: HostRuntime) -> Result<(), Fail> {
     Ok(())
 }
 
-// Offers the numbers below `count` in two bytes each.
+// Offers the numbers below `count`, in two bytes each.
 fn offer_numbers(writer: &mut Writer, count: u16)
     requires size { writer.old.size ≡ 2 }
     requires new { writer.old.knows ≡ new_writing }
@@ -211,7 +211,7 @@ fn offer_numbers(writer: &mut Writer, count: u16)
     }
 }
 
-// Tries to take a scan `turns` times, and says how many came; `None` where a scan isn't its mark's number, or where a place is
+// Tries to take a scan `turns` times, and returns how many came; `None` if a scan isn't its mark's number, or if a place is
 // left out.
 fn take_numbers(reader: &mut Reader, turns: u32) -> Option<u64>
     requires { reader.old.size ≡ 2 }

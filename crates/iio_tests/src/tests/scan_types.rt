@@ -116,7 +116,7 @@ const ENDS: &[(&str, i64, &[u8], i64, &[u8])] = &[
     ),
 ];
 
-// Whether a text is read as a type that is printed so, and whose channel has that many bytes.
+// Whether a text is read as a type that is printed as `printed`, and whose channel has that size.
 fn is_spelled(alloc: Global, text: &str, printed: &str, size: u32) -> Result<bool, Mem> {
     match read_type(text.as_bytes()) {
         Some(ty) => Ok(ty.size() == size && print_type(alloc, &ty)?.as_str() == printed),
@@ -124,7 +124,7 @@ fn is_spelled(alloc: Global, text: &str, printed: &str, size: u32) -> Result<boo
     }
 }
 
-// The type that a text spells, of which nothing more is known.
+// The type that a text spells, with nothing more known of it.
 fn spelled(text: &str) -> Option<ScanType> {
     read_type(text.as_bytes())
 }
@@ -147,7 +147,7 @@ fn texts(rt: HostRuntime) -> Result<(), Mem> {
     Ok(())
 }
 
-// A type of these parts, of which nothing more is known.
+// A type of these parts, with nothing more known of it.
 fn made(
     sign: Sign,
     realbits: u8,
@@ -182,7 +182,7 @@ fn is_written(ty: &ScanType, value: i64, bytes: &[u8]) -> bool {
     *out == *bytes && ty.get(out, 0) == value
 }
 
-// Whether the range of a type ends at these values, which are written so, and at which sums are cut.
+// Whether the range of a type ends at these values, which have these bytes, and at which sums are cut.
 fn has_ends(ty: &ScanType, least: i64, low: &[u8], greatest: i64, high: &[u8]) -> bool {
     ty.range() == (least, greatest)
         && is_written(ty, least, low)
@@ -200,7 +200,7 @@ fn ends_of_ranges(rt: HostRuntime) {
     }
 }
 
-// The bytes of 1 and -2, of a type with two elements of two bytes.
+// The bytes of 1 and -2 in a type of two elements of two bytes.
 fn put_two(ty: &ScanType) -> Option<[u8; 4]> {
     if ty.repeat() != 2 || ty.size() != 4 {
         return None;
@@ -210,7 +210,7 @@ fn put_two(ty: &ScanType) -> Option<[u8; 4]> {
     Some(out)
 }
 
-// What stands in the bytes of such a channel.
+// The values that stand in the bytes of such a channel.
 fn get_two(ty: &ScanType, bytes: [u8; 4]) -> Option<(i64, i64)> {
     if ty.repeat() != 2 || ty.size() != 4 {
         return None;
@@ -228,7 +228,7 @@ fn put_element(ty: &ScanType) -> Option<[u8; 2]> {
     Some(element)
 }
 
-// The same at the front of three bytes and of nine.
+// The bytes of the same element, at the front of three bytes and of nine.
 fn put_fronts(ty: &ScanType) -> Option<([u8; 2], [u8; 2])> {
     if ty.element_size() != 2 {
         return None;
@@ -252,7 +252,7 @@ fn elements_of_two_bytes(rt: HostRuntime) {
     assert_eq!(rt; put_fronts(&ty), Some(([0xff, 0xe0], [0xff, 0xe0])));
 }
 
-// The bytes of four elements of four bytes, and what is read of the last one.
+// The bytes of four elements of four bytes, and the value read of the last one.
 fn put_four(ty: &ScanType) -> Option<([u8; 16], i64)> {
     if ty.repeat() != 4 || ty.size() != 16 {
         return None;

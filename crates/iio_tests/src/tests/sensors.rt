@@ -22,7 +22,7 @@ fn two_rows(alloc: Global) -> Result<Rows, Mem>
     })
 }
 
-// The type that a text spells, of which nothing more is known.
+// The type that a text spells, with nothing more known of it.
 fn type_of(rt: &impl Abort, text: &str) -> ScanType {
     read_type(text.as_bytes()).expect(rt, "a type")
 }
@@ -93,7 +93,7 @@ fn rows_hold_to_the_next(rt: HostRuntime) -> Result<(), Mem> {
     Ok(())
 }
 
-// Sets the bias of voltage0: what it is then, and the value at the first row's moment.
+// Sets the bias of voltage0, and returns what it is then, and the value at the first row's moment.
 fn biased(driver: &mut impl Sensor, shape: &Shape, bias: i64) -> (i64, Result<i64, Fault>)
     requires { 0 < length shape.now.channels }
 {
@@ -128,7 +128,7 @@ fn biases_are_added_exactly(rt: HostRuntime) -> Result<(), Mem> {
     Ok(())
 }
 
-/// Of a ramp: the number of element 0 of each channel of `two_channels`, at a moment.
+/// A moment, and a ramp's number in element 0 of each channel of `two_channels`.
 const RAMP: &[(i64, i64, i64)] = &[
     (0, 0, 127),
     (7, 7, 127),
@@ -150,12 +150,12 @@ fn a_ramp_counts(rt: HostRuntime) -> Result<(), Mem> {
     }
     driver.set_bias(1, -1005);
     assert_eq!(rt; driver.bias_of(1), -1005);
-    // 7 and 2 are 1000 more and 1005 less; the value of voltage0 is shifted by 4.
+    // 2 is 7 with 1000 more, for channel 1, and 1005 less, by its bias; the value of voltage0 is shifted by 4.
     assert_eq!(rt; scan_at(&rt, &mut driver, &shape, 7), [0x70, 0, 2, 3]);
     Ok(())
 }
 
-// One ask for the scan of both channels.
+// Asks once for the scan of both channels.
 fn capture_at(
     rt: &impl Abort,
     driver: &mut impl Sensor,

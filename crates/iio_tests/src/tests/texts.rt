@@ -43,7 +43,7 @@ fn numbers_and_integers(rt: HostRuntime) {
     }
 }
 
-/// Bytes, and how they are written.
+/// Bytes, and their escaped form.
 const ESCAPED: &[(&[u8], &str)] = &[
     (b"READBUF adc0 8\n", r"READBUF adc0 8\n"),
     (b"\x00\x7f\xff ~", r"\x00\x7f\xff ~"),
@@ -51,7 +51,7 @@ const ESCAPED: &[(&[u8], &str)] = &[
     (b"", ""),
 ];
 
-/// Texts that are no escapes, and the place of what is wrong.
+/// Texts that are no escapes, and the place of the error.
 const WRONG_ESCAPES: &[(&[u8], usize)] = &[
     (br"a\q", 1),
     (br"\x1", 0),
@@ -61,14 +61,14 @@ const WRONG_ESCAPES: &[(&[u8], usize)] = &[
     (b"~\x7f", 1),
 ];
 
-// Whether bytes are written so, and read from that.
+// Whether bytes are escaped as `text`, and read back from it.
 fn is_escaped(alloc: Global, bytes: &[u8], text: &[u8]) -> Result<bool, Fail> {
     let printed = escape(alloc, bytes)?;
     let read = unescape(alloc, text)?;
     Ok(printed.as_slice() == text && read.as_slice() == bytes)
 }
 
-// What is written of bytes after others, and what is read of a text.
+// What is appended for bytes after others, and what is read from a text.
 fn escaped_after(alloc: Global, before: &[u8], bytes: &[u8]) -> Result<Vec<u8>, Fail> {
     let mut line = before.to_vec(alloc)?;
     escape_to(&mut line, bytes)?;

@@ -2,7 +2,7 @@
 
 use iio_trigger::{Polled, Trigger};
 
-// Takes a device's entry off, where it is due.
+// Takes a device's entry off the trigger, if it is due.
 fn handle(trigger: &mut Trigger, dev: u32) -> bool {
     let Some(due) = trigger.due(dev) else {
         return false;

@@ -1,4 +1,4 @@
-//! `readdev` over sources, sinks and links in memory. Expected texts by hand.
+//! `readdev` over sources, sinks and links in memory. The expected texts were written by hand.
 
 use iio_io::{Dial, MemLink, MemSink, MemSource, TcpLink};
 use iio_text::Why;
@@ -23,8 +23,8 @@ const OPEN_SENT: &str = "OPEN adc0 1 00000005\n";
 
 const READ_SENT: &str = "OPEN adc0 1 00000005\nREADBUF adc0 4\n";
 
-/// The words, the input, what the link gives, the calls that fail at the source and at the link, the room of the output, what
-/// is sent and printed, the status and its number.
+/// The words, the input, what the link gives, the failing calls of the source and of the link, the room of the output, what
+/// is sent and printed, the status and the exit code.
 #[derive(Clone, Copy)]
 struct Row<'a> {
     words: &'a [&'a str],
@@ -39,7 +39,7 @@ struct Row<'a> {
     code: u8,
 }
 
-/// A scan that is read.
+/// A reading of one scan.
 const READ: Row<'static> = Row {
     words: &["readdev", "a", "adc0", "1", "00000005", "1"],
     input: DESCRIPTION,
@@ -65,10 +65,10 @@ const WORDS_REFUSED: Row<'static> = Row {
     ..READ
 };
 
-/// Each status but want of memory, an input that is too long and a connection that can't be begun.
+/// Each status except lack of memory, an input that is too long, and a connection that can't be begun.
 const ROWS: &[Row<'static>] = &[
     READ,
-    // Numbers may have zeros in front.
+    // Numbers may have leading zeros.
     Row {
         words: &["readdev", "", "adc0", "0001", "00000005", "01"],
         ..READ
@@ -82,7 +82,7 @@ const ROWS: &[Row<'static>] = &[
         printed: "1000 voltage0=1\n",
         ..READ
     },
-    // A driver is known by its number, of which there are four.
+    // A driver is given by its number; there are four.
     Row {
         words: &["readdev", "a", "adc1", "1", "00000001", "1"],
         input: "trigger t0 2\ndevice adc1 t0\nchannel voltage0 le:u12/16>>4\ndriver 3\n",
@@ -102,7 +102,7 @@ const ROWS: &[Row<'static>] = &[
         code: 1,
         ..READ
     },
-    // The device is looked for before the mask is read.
+    // The device is looked up before the mask is read.
     Row {
         words: &["readdev", "a", "adc1", "1", "no mask", "1"],
         printed: "refused 0 device\n",
@@ -146,7 +146,7 @@ const ROWS: &[Row<'static>] = &[
         words: &["readdev", "a", "adc0", "1", "00000000", "1"],
         ..WORDS_REFUSED
     },
-    // The timestamp alone is no data channel.
+    // The timestamp alone isn't a data channel.
     Row {
         words: &["readdev", "a", "adc0", "1", "00000008", "1"],
         ..WORDS_REFUSED
@@ -238,7 +238,7 @@ fn owned(alloc: Global, words: &[&str]) -> Result<Vec<String>, Fail> {
     Ok(list)
 }
 
-// What words do with an input, an output and a link, beside four drivers.
+// Returns what words do with an input, an output and a link, with four drivers.
 fn status_of<L: Dial>(
     alloc: Global,
     words: &[&str],
@@ -283,7 +283,7 @@ fn each_status(rt: HostRuntime) -> Result<(), Fail> {
     Ok(())
 }
 
-// The input isn't read, so that a read of it that would fail doesn't.
+// The input isn't read: a read of it that would fail doesn't take place.
 #[test]
 fn other_words_name_the_commands(rt: HostRuntime) -> Result<(), Fail> {
     for words in WRONG {
@@ -301,7 +301,7 @@ fn other_words_name_the_commands(rt: HostRuntime) -> Result<(), Fail> {
     Ok(())
 }
 
-// One byte more than is looked at, without a line that fails.
+// An input of one byte more than is looked at, without a line that fails.
 fn long_input(alloc: Global) -> Result<MemSource, Fail> {
     let mut text = vec![in alloc; b'#'; 67_108_865]?;
     for line in 0..68usize {
@@ -325,7 +325,7 @@ fn too_long(rt: HostRuntime) -> Result<(), Fail> {
     Ok(())
 }
 
-// An address without a port is none: the link is dialled once, and told nothing.
+// An address without a port isn't one: the link is dialled once, and nothing is sent over it.
 #[test]
 fn no_address(rt: HostRuntime) -> Result<(), Fail> {
     let alloc = rt.alloc();
@@ -343,8 +343,8 @@ fn no_address(rt: HostRuntime) -> Result<(), Fail> {
     Ok(())
 }
 
-// How the process ends after a reading of these bytes, and whether its words, and they without the first, are those of
-// `readdev`.
+// Returns the exit code of the process after a reading of these bytes, and
+// whether its words, and the same without the first one, are those of `readdev`.
 fn exit_after(alloc: Global, given: &'static [u8]) -> Result<(ExitCode, bool, bool), Fail> {
     let row = Row { given, ..READ };
     let mut input = input_of(alloc, &row)?;

@@ -1,4 +1,4 @@
-//! Answers in pieces, and readings over links in memory. Expected texts by hand.
+//! Answers in pieces, and readings over links in memory. The expected texts were written by hand.
 
 ghost use Rattle.std.specs.Prelude.{◌≡◌, ◌<◌, ◌≤◌, ◌^◌, true, length, IfOk};
 ghost use Rattle.iio_mask.specs.Mask.{has};
@@ -14,8 +14,8 @@ use std::alloc::Global;
 use std::process::Abort;
 use std::test::Fail;
 
-// An answer to READBUF under 00000005 of scans of four bytes: what was asked for, the text, how many bytes of it are the
-// answer's, its state and its data.
+// An answer to a READBUF for scans of four bytes under 00000005: the number of bytes asked for, the text, how many of its
+// bytes are the answer's, its state and its data.
 struct Fed {
     asked: u32,
     text: &'static [u8],
@@ -146,7 +146,7 @@ const FED: [Fed; 17] = [
     },
 ];
 
-// Whether an answer is read so where its text comes in two pieces.
+// Whether an answer has this reading if its text comes in two pieces.
 fn is_answer(alloc: Global, row: &Fed, cut: usize) -> Result<bool, Fail> {
     if row.asked < 1 || row.asked > MAX_ASKED {
         return Ok(false);
@@ -170,7 +170,7 @@ fn answers_at_every_cut(rt: HostRuntime) -> Result<(), Fail> {
     Ok(())
 }
 
-// A channel of that ID and type.
+// Makes a channel of that ID and type.
 fn channel(id: &str, ty: &str) -> Result<Channel, Fail> {
     let (kind, suffix) = read_id(id.as_bytes()).ok_or("no ID")?;
     Ok(Channel {
@@ -191,7 +191,7 @@ fn adc(alloc: Global) -> Result<Shape, Fail> {
     Ok(shape.ok_or("no shape")?)
 }
 
-// What is wanted of adc0 under a mask that has its first channel.
+// Asks for adc0 under a mask that has its first channel.
 fn ask_under<'a>(shape: &'a Shape, mask: Mask, scans: u32) -> Ask<'a>
     requires below { mask.bits < 2 ^ count_of shape.now }
     requires channel { 0 < length shape.now.channels }
@@ -208,7 +208,7 @@ fn ask_under<'a>(shape: &'a Shape, mask: Mask, scans: u32) -> Ask<'a>
     }
 }
 
-// What is wanted of adc0 under the mask that a text says.
+// Asks for adc0 under the mask that a text gives.
 fn ask<'a>(rt: &impl Abort, shape: &'a Shape, mask: &str, scans: u32) -> Result<Ask<'a>, Fail>
     requires { 1 ≤ scans }
     ensures { IfOk result (λ ask. IsAsk (wanted_by ask)) }
@@ -221,7 +221,7 @@ fn ask<'a>(rt: &impl Abort, shape: &'a Shape, mask: &str, scans: u32) -> Result<
     Ok(ask_under(shape, mask, scans))
 }
 
-// A link that gives these bytes in pieces, and calls of which fail.
+// Makes a link that gives these bytes in pieces, and fails some of its calls.
 fn link(
     alloc: Global,
     bytes: &[u8],
@@ -235,7 +235,7 @@ fn link(
     Ok(MemLink::new(source, MemSink::new(alloc, 65_536, sends.to_vec(alloc)?)?))
 }
 
-// A reading: the mask, the scans that are wanted, what the link gives, what is sent and printed, and the end.
+// A reading: the mask, the number of wanted scans, what the link gives, what is sent and printed, and the end.
 struct Row {
     mask: &'static str,
     scans: u32,
@@ -301,7 +301,7 @@ const ROWS: [Row; 14] = [
         printed: b"refused -11\n",
         end: ClientEnd::Refused(11),
     },
-    // The answer that ends as refused isn't printed.
+    // The scans of an answer that ends as refused aren't printed.
     Row {
         mask: "00000005",
         scans: 2,
@@ -368,14 +368,14 @@ const ROWS: [Row; 14] = [
     },
 ];
 
-// The end of a reading. Nothing more of it is known than what a link and a sink tell.
+// Returns the end of a reading. Only what a link and a sink show of it is known.
 fn end_of(alloc: Global, ask: &Ask<'_>, link: &mut MemLink, output: &mut MemSink) -> ClientEnd
     requires { IsAsk (wanted_by ask.now) }
 {
     read_device(alloc, link, ask, output)
 }
 
-// Whether a reading over a link that gives its bytes in such pieces sends, prints and ends as the row says.
+// Whether a reading over a link that gives its bytes in pieces of that size sends, prints and ends as the row says.
 fn is_reading(alloc: Global, ask: &Ask<'_>, row: &Row, piece: usize) -> Result<bool, Fail>
     requires asked { IsAsk (wanted_by ask.now) }
     requires piece { 1 ≤ piece }
@@ -400,7 +400,8 @@ fn reads_in_any_pieces(rt: HostRuntime) -> Result<(), Fail> {
     Ok(())
 }
 
-// How the reading of the first row ends where these calls fail, if what was sent and printed is a front part of the row's.
+// Returns how the reading of the first row ends if these calls fail,
+// provided that a front part of the row's bytes was sent and printed.
 fn faulty_end(
     alloc: Global,
     ask: &Ask<'_>,
@@ -418,7 +419,7 @@ fn faulty_end(
     Ok(if front { Some(end) } else { None })
 }
 
-// Reads the first row where these calls fail, and compares the end.
+// Reads the first row while these calls fail, and compares the end.
 fn check_faults(
     rt: &impl Abort,
     alloc: Global,
@@ -437,7 +438,7 @@ fn check_faults(
 #[test]
 fn each_call_fails_in_turn(rt: HostRuntime) -> Result<(), Fail> {
     let alloc = rt.alloc();
-    // 19 bytes come, one at a time, and 4 lines go.
+    // 19 bytes come, one at a time, and 4 lines are sent.
     for call in 1..20 {
         check_faults(&rt, alloc, &[call], &[], &[], ClientEnd::LinkFault)?;
     }

@@ -1,4 +1,4 @@
-//! The bytes of each form of answer, written out by hand after docs/FORMATS.md.
+//! The bytes of each form of answer, written by hand according to docs/FORMATS.md.
 
 use iio_mask::Mask;
 use iiod_reply::{block, number, value};

@@ -1,5 +1,5 @@
-//! The words `gen N`, and what is counted in a text. The expected lines of `gen` are those of another program that makes and
-//! plays the same inputs.
+//! The words `gen N`, and the counts of a text. The expected lines of `gen`
+//! are those of another program that makes and plays the same inputs.
 
 ghost use Rattle.std.specs.Prelude.{◌≤◌, length};
 
@@ -10,10 +10,10 @@ use iio_text::Why;
 use std::alloc::Global;
 use std::test::Fail;
 
-/// What is counted in the input of 1.
+/// The counts of the input of 1.
 const LINES: &[u8] = b"captures 7549\nscans 11106\noverruns 1342\nbytes 9826801\n";
 
-/// Numbers, and what is counted in their inputs.
+/// Numbers, and the counts of their inputs.
 const SUMMARIES: &[(&str, &[u8])] = &[
     ("1", LINES),
     (
@@ -26,10 +26,10 @@ const SUMMARIES: &[(&str, &[u8])] = &[
     ),
 ];
 
-/// What stands in the input, and stays there.
+/// The input, none of which is taken.
 const LEFT: &[u8] = b"trigger";
 
-// What is printed for a number, the status, and what is left of the input.
+// Returns what is printed for a number, the status, and what is left of the input.
 fn generated(alloc: Global, number: &str) -> Result<(Vec<u8>, Status, Vec<u8>), Fail> {
     let mut input = source(alloc, LEFT, 1000, &[])?;
     let (printed, status) = outcome(alloc, &["gen", number], &mut input)?;
@@ -67,7 +67,7 @@ fn written_to(alloc: Global, room: usize, failing: u64) -> Result<(Vec<u8>, Stat
     Ok((output.written().to_vec(alloc)?, ended))
 }
 
-// A sink takes what it has room for, and the next write fails.
+// A sink takes as much as it has room for, and the next write fails.
 #[test]
 fn failing_writes_cut_the_summary(rt: HostRuntime) -> Result<(), Fail> {
     for (room, failing, lines, status) in WRITES {
@@ -82,7 +82,7 @@ fn failing_writes_cut_the_summary(rt: HostRuntime) -> Result<(), Fail> {
 const COUNTED: &[u8] =
     b"trigger t0 2\ndevice y t0\nchannel voltage0 le:u8/8>>0\nrow 1 65\nrow 2 66\nrow 3 67\nrow 4 68\n%%\nA \"SET y BUFFERS_COUNT 1\\nOPEN y 1 00000001\\n\"\nfire t0 1\nfire t0 2\nfire t0 3\nA \"READBUF y 1\\n\"\nA \"READ y BUFFER overruns\\n\"\nfire t0 4\nA \"READBUF y 2\\n\"\nA \"READBUF y 1\\n\"\n";
 
-// What is counted in a text, or why it isn't. Nothing is known here of what the text says.
+// Returns the counts of a text, or why it has none. The contract says nothing of what the text means.
 fn counted(alloc: Global, text: &[u8]) -> Result<[u64; 4], Stop>
     requires { length text.now ≤ 1000 }
 {
@@ -90,7 +90,7 @@ fn counted(alloc: Global, text: &[u8]) -> Result<[u64; 4], Stop>
     Ok([found.captures, found.scans, found.overruns, found.bytes])
 }
 
-// What is counted in a text that is played, and the first line that fails.
+// The counts of a text that is played, or its first line that fails.
 #[test]
 fn tally_of_a_run(rt: HostRuntime) {
     let refused = Stop::Refused {

@@ -1,11 +1,11 @@
-//! Inputs of some numbers. Their ends and lengths were reckoned outside of this program, from the constants alone.
+//! Inputs of some numbers. Their ends and lengths were computed outside of this program, from the constants alone.
 
 use iio_gen::make;
 use std::alloc::Global;
 use std::test::Fail;
 
-/// A number, the length of its input, and its first and last lines. The first number drawn from 1 is 7806831264735756412, of
-/// which the upper bits are 908834774, and this modulo 6 is 2: the third type. The last step of the second input is an OPEN.
+/// A number, the length of its input, and its first and last lines. The first number drawn from 1 is 7806831264735756412; its
+/// upper bits are 908834774, and this modulo 6 is 2: the third type. The last step of the second input is an OPEN.
 const INPUTS: &[(u64, usize, &[u8], &[u8])] = &[
     (
         1,
@@ -21,7 +21,7 @@ const INPUTS: &[(u64, usize, &[u8], &[u8])] = &[
     ),
 ];
 
-// The length of a number's input, and whether it begins and ends so.
+// Returns the length of a number's input, and whether it begins and ends with these texts.
 fn ends_of(alloc: Global, n: u64, begin: &[u8], end: &[u8]) -> Result<(usize, bool, bool), Fail> {
     let text = make(alloc, n)?;
     Ok((text.len(), text.starts_with(begin), text.ends_with(end)))

@@ -9,7 +9,7 @@ use std::alloc::Global;
 use std::process::Abort;
 use std::test::Fail;
 
-/// Six lines: a trigger, and a device with three channels and a timestamp.
+/// A trigger, and a device with three channels and a timestamp, in six lines.
 const ADC0: &[u8] =
     b"trigger t0 2\ndevice adc0 t0\nchannel voltage0 le:u12/16>>4\nchannel voltage1 le:u12/16>>4\nchannel accel_x be:s16/16>>0\ntimestamp\n";
 
@@ -31,7 +31,7 @@ const LAYOUTS: &[(&str, &[u8])] = &[
     ("00000000", b"scan 0\n"),
 ];
 
-/// What stands behind the description.
+/// What comes after the description.
 const ENDINGS: &[&[u8]] = &[
     b"",
     b"%%",
@@ -39,7 +39,7 @@ const ENDINGS: &[&[u8]] = &[
     b"row 0 1 2 3\n%%\nno line of a description \x00\n",
 ];
 
-// What is printed for a mask of adc0, and the status, where its description ends so.
+// Returns what is printed for a mask of adc0, whose description has this ending, and the status.
 fn laid(alloc: Global, mask: &str, ending: &[u8]) -> Result<(Vec<u8>, Status), Fail> {
     let mut text = ADC0.to_vec(alloc)?;
     text.extend_from_slice(ending)?;
@@ -61,7 +61,7 @@ fn layouts_are_printed(rt: HostRuntime) -> Result<(), Fail> {
     Ok(())
 }
 
-/// A description, a device, a mask, and what is printed and answered for them.
+/// A description, a device, a mask, and what is printed for them, with the exit code.
 const ENDS: &[(&[u8], &str, &str, &[u8], u8)] = &[
     (ADC0, "adc0", "5", b"refused 0 mask\n", 1),
     (ADC0, "adc0", "", b"refused 0 mask\n", 1),
@@ -80,7 +80,7 @@ const ENDS: &[(&[u8], &str, &str, &[u8], u8)] = &[
         b"refused 0 device\n",
         1,
     ),
-    // Nor an averaging device: its scans are laid out as its base's.
+    // Neither has an averaging device: its scans are laid out like its base's.
     (
         b"device d -\nchannel temp le:s8/8\naverage avg0 d 2\n",
         "avg0",
@@ -149,7 +149,7 @@ const ENDS: &[(&[u8], &str, &str, &[u8], u8)] = &[
     ),
 ];
 
-// What `layout` prints for a description, and the number of its status.
+// Checks what `layout` prints for a description, and the exit code.
 fn check_layout(
     rt: &impl Abort,
     alloc: Global,
@@ -177,7 +177,7 @@ fn layouts_are_refused(rt: HostRuntime) -> Result<(), Fail> {
 const QUATERNION: &[u8] =
     b"trigger t0 2\ndevice q t0\nchannel accel_x le:s32/32X4>>0\ntimestamp\nrow 0 1 2 3 -1\n";
 
-/// A channel's type, and what `layout` prints for the channel alone and ends with.
+/// A channel's type, what `layout` prints for that channel alone, and the exit code.
 const SPELLINGS: &[(&str, &[u8], u8)] = &[
     ("be:u12/16", b"voltage0 0 2 be:u12/16>>0\nscan 2\n", 0),
     (
@@ -219,14 +219,14 @@ fn spellings(rt: HostRuntime) -> Result<(), Fail> {
     )
 }
 
-// The status of a layout whose reads are of one byte each and of which one fails, and whether nothing is printed.
+// Returns the status of a layout whose reads are of one byte each and one of which fails, and whether nothing is printed.
 fn status_without(alloc: Global, text: &[u8], failing: u64) -> Result<(Status, bool), Fail> {
     let mut input = source(alloc, text, 1, &[failing])?;
     let (printed, status) = outcome(alloc, &["layout", "adc0", "00000009"], &mut input)?;
     Ok((status, printed.is_empty()))
 }
 
-// One byte a read: each read up to the end line fails in turn. Nothing is read after it.
+// With one byte per read, each read up to the end line fails in turn. Nothing is read after that line.
 #[test]
 fn failing_reads_end_the_layout(rt: HostRuntime) -> Result<(), Fail> {
     let mut text = ADC0.to_vec(rt.alloc())?;
@@ -243,7 +243,7 @@ fn failing_reads_end_the_layout(rt: HostRuntime) -> Result<(), Fail> {
 
 const ONE_CHANNEL: &[u8] = b"voltage0 0 2 le:u12/16>>4\nscan 2\n";
 
-/// The room of a sink, the write that fails, how much is written, and the status.
+/// The room of a sink, the write that fails, the number of bytes written, and the status.
 const WRITES: &[(usize, u64, usize, u8)] = &[
     (1000, 1, 0, 4),
     (0, 9, 0, 4),
@@ -253,7 +253,7 @@ const WRITES: &[(usize, u64, usize, u8)] = &[
     (33, 2, 33, 0),
 ];
 
-// What is written of the layout of one channel is a front part of it: its bytes, and the number of the status.
+// What is written of the layout of one channel is a front part of it; returns its number of bytes and the exit code.
 fn written_to(alloc: Global, room: usize, failing: u64) -> Result<Option<(usize, u8)>, Fail> {
     let mut input = source(alloc, ADC0, 1000, &[])?;
     let mut output = sink(alloc, room, &[failing])?;
@@ -276,7 +276,7 @@ fn failing_writes_end_the_layout(rt: HostRuntime) -> Result<(), Fail> {
     Ok(())
 }
 
-// That many rows.
+// Appends that many rows.
 fn push_rows(alloc: Global, text: &mut Vec<u8>, rows: u32) -> Result<(), Fail> {
     for row in 0..rows {
         let number = 1_000_000_000 + u64::from(row);
@@ -286,7 +286,7 @@ fn push_rows(alloc: Global, text: &mut Vec<u8>, rows: u32) -> Result<(), Fail> {
     Ok(())
 }
 
-// A description with `rows` rows, and 200,000 empty lines after the line that ends it.
+// Makes a description with `rows` rows, and 200,000 empty lines after the line that ends it.
 fn ended_early(alloc: Global, rows: u32) -> Result<Vec<u8>, Fail> {
     let mut text = ADC0.to_vec(alloc)?;
     push_rows(alloc, &mut text, rows)?;
@@ -295,7 +295,7 @@ fn ended_early(alloc: Global, rows: u32) -> Result<Vec<u8>, Fail> {
     Ok(text)
 }
 
-// How much `layout` takes of a description with `rows` rows, from a source that gives `piece` bytes a read.
+// Checks how much `layout` takes of a description with `rows` rows, from a source that gives `piece` bytes per read.
 fn check_taken(
     rt: &impl Abort,
     alloc: Global,

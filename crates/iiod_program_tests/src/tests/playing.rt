@@ -16,7 +16,7 @@ fn push_ramp(alloc: Global, drivers: &mut Drivers) -> Result<(), Fail> {
     Ok(())
 }
 
-// A ramp whose second ask fails.
+// Adds a ramp whose second ask fails.
 fn push_failing(alloc: Global, drivers: &mut Drivers) -> Result<(), Fail> {
     drivers.push(Box::new(alloc, Failing::new(Vec::from_slice(alloc, &[2])?))?)?;
     Ok(())
@@ -32,7 +32,7 @@ fn four_drivers(alloc: Global) -> Result<Drivers, Fail> {
     Ok(drivers)
 }
 
-/// Words as the program has them.
+/// Returns words as the program has them.
 pub(crate) fn owned(alloc: Global, words: &[&str]) -> Result<Vec<String>, Fail> {
     let mut list = Vec::new(alloc);
     for word in words {
@@ -41,7 +41,7 @@ pub(crate) fn owned(alloc: Global, words: &[&str]) -> Result<Vec<String>, Fail> 
     Ok(list)
 }
 
-/// What words do with a source and a sink.
+/// Does what words say with a source and a sink.
 pub(crate) fn run_words(
     alloc: Global,
     words: &[&str],
@@ -53,7 +53,7 @@ pub(crate) fn run_words(
     Ok(run(alloc, words.as_slice(), drivers, input, output))
 }
 
-/// What words print, to a sink with room for all of it, and the status.
+/// Returns what words print to a sink with room for all of it, and the status.
 pub(crate) fn outcome(
     alloc: Global,
     words: &[&str],
@@ -64,7 +64,7 @@ pub(crate) fn outcome(
     Ok((output.written().to_vec(alloc)?, status))
 }
 
-/// The bytes of texts, one after the other.
+/// Returns the bytes of texts, one after the other.
 pub(crate) fn joined(alloc: Global, texts: &[&str]) -> Result<Vec<u8>, Fail> {
     let mut bytes = Vec::new(alloc);
     for text in texts {
@@ -75,7 +75,7 @@ pub(crate) fn joined(alloc: Global, texts: &[&str]) -> Result<Vec<u8>, Fail> {
 
 pub(crate) const USAGE: &[u8] = b"usage: play | solo NAME | layout DEVICE MASK | gen N\n";
 
-/// A source that gives a text in pieces, of which these reads fail.
+/// Makes a source that gives a text in pieces, and fails these reads.
 pub(crate) fn source(
     alloc: Global,
     text: &[u8],
@@ -87,7 +87,7 @@ pub(crate) fn source(
     Ok(MemSource::new(text.to_vec(alloc)?, piece, fails.to_vec(alloc)?))
 }
 
-/// A sink with that much room, of which these writes fail.
+/// Makes a sink with that much room, which fails these writes.
 pub(crate) fn sink(alloc: Global, room: usize, fails: &[u64]) -> Result<MemSink, Fail> {
     Ok(MemSink::new(alloc, room, fails.to_vec(alloc)?)?)
 }

@@ -14,7 +14,7 @@ use std::test::Fail;
 const ADC: &str =
     "trigger t0 2\ndevice adc0 t0\nchannel voltage0 le:u12/16>>4\nchannel voltage1 le:u12/16>>4\nchannel accel_x be:s16/16>>0\ntimestamp\nrow 0 1 2 -3\n";
 
-// What the words `solo NAME` print for a text, and the number that they end with; `row` tells the row that fails.
+// Checks what the words `solo NAME` print for a text, and their exit code; `row` names the row that fails.
 fn check_solo(
     rt: &impl Abort,
     alloc: Global,
@@ -34,7 +34,7 @@ fn check_solo(
     Ok(())
 }
 
-// Both worlds print this.
+// Checks that both worlds print this.
 fn check_worlds(
     rt: &impl Abort,
     alloc: Global,
@@ -47,7 +47,7 @@ fn check_worlds(
     check_solo(rt, alloc, row, name, text, &both, 0)
 }
 
-/// Two lines after those of `ADC`, of which there are seven: a second device on that trigger.
+/// Two lines after the seven lines of `ADC`: a second device on that trigger.
 const ADC1: &str = "device adc1 t0
 channel voltage0 le:u8/8>>0
 ";
@@ -108,7 +108,7 @@ A "READBUF adc0 8\n"
     )
 }
 
-/// What a neighbour sends to A's device or to none. A has it open.
+/// What a neighbour sends to A's device or to none, while A has its device open.
 const HARMLESS: &[&str] = &[
     "",
     r"\n",
@@ -128,7 +128,7 @@ const HARMLESS: &[&str] = &[
     r"GETTRIG adc0\n",
     r"SET adc0 BUFFERS_COUNT 2\n",
     r"REMASK adc0 00000001\n",
-    // Not ended yet.
+    // These items haven't ended yet.
     r"OPEN adc1 1 00000001",
     r"WRITE adc0 INPUT accel_x calibbias 2\n1",
     r"WRITEBUF adc0 2\n1",
@@ -158,7 +158,7 @@ const OFFENDING: &[&str] = &[
     r"VERSION\nCLOSE adc1\nVERSION\n",
 ];
 
-// A opens its device, then B sends this, then A asks for the trigger.
+// Makes a script in which A opens its device, then B sends this, then A asks for the trigger.
 fn beside(alloc: Global, sent: &str) -> Result<Vec<u8>, Fail> {
     let opening = r#"A "OPEN adc0 1 00000005\n"
 B ""#;
@@ -201,7 +201,7 @@ A "2\nt0\n"
     check_solo(&rt, alloc, "A's", "A", &text, b"refused 11 bystander\n", 1)
 }
 
-// A and B open the device, at lines 9 and 10; then these.
+// Makes a script in which A and B open the device, at lines 9 and 10; then these texts follow.
 fn after_opening(alloc: Global, texts: &[&str]) -> Result<Vec<u8>, Fail> {
     let opening = r#"A "OPEN adc0 1 00000005\n"
 B "OPEN adc0 1 00000002\n"
@@ -213,7 +213,7 @@ B "OPEN adc0 1 00000002\n"
     Ok(text)
 }
 
-/// How A parts from the device, and what is printed for it.
+/// How A leaves the device or its mask, and what is printed for it.
 const ENDINGS: &[(&str, &str)] = &[
     ("A \"CLOSE adc0\\n\"\n", "A \"0\\n\"\n"),
     ("A \"REMASK adc0 00000001\\n\"\n", "A \"0\\n\"\n"),
@@ -229,7 +229,7 @@ const ENDINGS: &[(&str, &str)] = &[
     ),
 ];
 
-// Not beside B; but after B has left.
+// Each is refused beside B, but not after B has left.
 #[test]
 fn each_ending(rt: HostRuntime) -> Result<(), Fail> {
     let alloc = rt.alloc();
@@ -254,7 +254,7 @@ fn each_ending(rt: HostRuntime) -> Result<(), Fail> {
     Ok(())
 }
 
-// A leaves a device that it hasn't open, or one that no other has, beside B.
+// Beside B, A leaves a device that it doesn't have open, or one that no other connection has open.
 #[test]
 fn what_isnt_shared_is_parted_from(rt: HostRuntime) -> Result<(), Fail> {
     let alloc = rt.alloc();
@@ -271,7 +271,7 @@ A "-9\n0\n0\n-19\n-38\n"
     check_worlds(&rt, alloc, "adc1", "A", &text, printed)
 }
 
-/// Two lines after those of `ADC`, of which there are seven: an output device on that trigger.
+/// Two lines after the seven lines of `ADC`: an output device on that trigger.
 const DAC: &str = "output dac0 t0
 channel voltage0 le:u8/8>>0
 ";
@@ -289,7 +289,7 @@ const NAMING: &[&str] = &[
     r"WRITEBUF dac0 1\nx",
 ];
 
-// A writer beside one that reads: neither may name the other's device, and A is given the same scans in both worlds.
+// A writer beside a reader: neither may name the other's device, and A is given the same scans in both worlds.
 #[test]
 fn an_output_beside_a_neighbour(rt: HostRuntime) -> Result<(), Fail> {
     let alloc = rt.alloc();
@@ -312,7 +312,7 @@ A "0\n"
     Ok(())
 }
 
-/// One line after those of `ADC`: an averaging device over it.
+/// One line after the seven lines of `ADC`: an averaging device over its device.
 const AVERAGE: &str = "average avg0 adc0 2\n";
 
 /// What a neighbour sends to A's averaging device.
@@ -326,7 +326,7 @@ const NAMING_AN_AVERAGE: &[&str] = &[
     r"REMASK avg0 00000001\n",
 ];
 
-// A neighbour may share the base, if A has it open too, and changes no mean. It may not name the averaging device.
+// A neighbour may share the base if A has it open too, and changes no mean. It may not name the averaging device.
 #[test]
 fn an_average_beside_a_neighbour(rt: HostRuntime) -> Result<(), Fail> {
     let alloc = rt.alloc();
@@ -354,7 +354,7 @@ A "4\n00000005\n\x10\x00\xff\xfd0\n"
         )?;
         check_solo(&rt, alloc, sent, "A", &text, b"refused 14 bystander\n", 1)?;
     }
-    // The base of a device that A has open isn't open by that.
+    // A device that A has open doesn't make its base open to A.
     let base_alone = r#"A "OPEN avg0 1 00000005\n"
 B "OPEN adc0 1 00000002\n"
 "#;
@@ -370,7 +370,7 @@ B "OPEN adc0 1 00000002\n"
     )
 }
 
-// What a step completes counts, not where it began: B's WRITE is whole at line 14.
+// An item counts at the step that completes it, not where it began: B's WRITE is whole at line 14.
 #[test]
 fn items_across_steps(rt: HostRuntime) -> Result<(), Fail> {
     let alloc = rt.alloc();
@@ -426,7 +426,7 @@ const ENDS: &[(&str, &[u8], &[u8], u8)] = &[
         b"refused 6 bystander\n",
         1,
     ),
-    // A refused line is told first, wherever it stands, and alone.
+    // A refused line is reported first, wherever it stands, and alone.
     (
         "A",
         b"trigger t 1\ndevice d t\nchannel voltage0 le:u8/8>>0\n%%\nB \"GETTRIG d\\n\"\nfire t 1\nfire\n",
@@ -452,7 +452,7 @@ fn ends_are_told(rt: HostRuntime) -> Result<(), Fail> {
     Ok(())
 }
 
-// A's lines stand in both texts; the first has them without the steps of B.
+// A's lines are in both texts; the first text has them without the steps of B.
 #[test]
 fn first_example_is_alone(rt: HostRuntime) -> Result<(), Fail> {
     let alloc = rt.alloc();
@@ -461,7 +461,7 @@ fn first_example_is_alone(rt: HostRuntime) -> Result<(), Fail> {
     check_worlds(&rt, alloc, "the first example", "A", FIRST_PATH, printed)
 }
 
-// One byte a read: each read in turn fails. Nothing is written then.
+// With one byte per read, each read fails in turn, and nothing is written then.
 #[test]
 fn failing_reads(rt: HostRuntime) -> Result<(), Fail> {
     let alloc = rt.alloc();
@@ -476,7 +476,7 @@ fn failing_reads(rt: HostRuntime) -> Result<(), Fail> {
     Ok(())
 }
 
-// A sink with room for so many bytes: a front part was written.
+// A sink with room for that many bytes: a front part was written.
 #[test]
 fn failing_writes(rt: HostRuntime) -> Result<(), Fail> {
     let alloc = rt.alloc();
@@ -501,7 +501,7 @@ fn failing_writes(rt: HostRuntime) -> Result<(), Fail> {
     Ok(())
 }
 
-// That many LFs: one byte too many is told before a step that offends.
+// Checks that many LFs: one byte too many is reported before a step that offends.
 #[test]
 fn too_long_inputs(rt: HostRuntime) -> Result<(), Fail> {
     let alloc = rt.alloc();

@@ -1,4 +1,4 @@
-//! The program's words: it serves where the first of them is `serve`, and runs else.
+//! The program's words: it serves if the first of them is `serve`, and otherwise does a run.
 
 use crate::tests::playing::{USAGE, outcome, owned, run_words, sink, source};
 use iio_io::{ListDoor, MemLink, read_whole};
@@ -50,7 +50,7 @@ const ENDS: &[(&[&str], &str, &[u8], End)] = &[
     (&[], DRIVEN, USAGE, End::Run(Status::Usage)),
 ];
 
-// How words end over an input and a door without a connection, and what is printed.
+// Returns how words end over an input and a door without a connection, and what is printed.
 fn end_after<R: Threads + Wait + Sync>(
     rt: &R,
     alloc: Global,
@@ -83,7 +83,7 @@ fn first_word_chooses(rt: HostRuntime) -> Result<(), Fail> {
     Ok(())
 }
 
-/// Words that are no command, with a space between two.
+/// Words that aren't a command, with a space between every two.
 const OTHER_WORDS: &[&str] = &[
     "",
     "--help",
@@ -113,7 +113,7 @@ const OTHER_WORDS: &[&str] = &[
     "serve a 10",
 ];
 
-// The words of a text, with a space between two.
+// Returns the words of a text, which are separated by single spaces.
 fn words_of<'a>(alloc: Global, text: &'a str) -> Result<Vec<&'a str>, Fail> {
     let mut words = Vec::new(alloc);
     for word in text.split(' ') {
@@ -122,7 +122,7 @@ fn words_of<'a>(alloc: Global, text: &'a str) -> Result<Vec<&'a str>, Fail> {
     Ok(words)
 }
 
-// The commands are named, also where there is room for a part of that line alone, and the input is left.
+// The commands are named, even if there is room only for a part of that line, and the input is left alone.
 fn check_other(rt: &impl Abort, alloc: Global, words: &[&str]) -> Result<(), Fail> {
     let mut input = source(alloc, FIRST_PATH, 1000, &[])?;
     let (printed, status) = outcome(alloc, words, &mut input)?;
@@ -147,7 +147,7 @@ fn other_words_name_the_commands(rt: HostRuntime) -> Result<(), Fail> {
     Ok(())
 }
 
-// A script through the word `play`. With enough memory the program doesn't give up.
+// Plays a script through the word `play`. With enough memory the program doesn't give up.
 #[test]
 fn answers_with_ample_memory(rt: HostRuntime) -> Result<(), Fail> {
     let mut input = source(rt.alloc(), FIRST_PATH, 1000, &[])?;

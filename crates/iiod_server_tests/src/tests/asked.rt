@@ -1,9 +1,9 @@
-//! A door that tells what was asked of it.
+//! A door that records what was asked of it.
 
 use iio_io::{Door, Failed, Link, ListDoor, ListTicker, Listen};
 use std::sync::atomic::{AtomicU32, Ordering};
 
-/// What was asked of a door: the bytes of the addresses, how many tickers, and the sum of their periods.
+/// The requests to a door: the number of bytes of the addresses, the number of tickers, and the sum of their periods.
 #[derive(Drop)]
 pub struct Asked {
     pub bytes: AtomicU32,
@@ -12,7 +12,7 @@ pub struct Asked {
 }
 
 impl Asked {
-    /// Nothing yet.
+    /// Creates the record of no requests.
     pub fn new() -> Asked {
         Asked {
             bytes: AtomicU32::new(0),
@@ -21,7 +21,7 @@ impl Asked {
         }
     }
 
-    /// How many bytes of addresses, how many tickers, and the sum of their periods.
+    /// Returns the number of bytes of the addresses, the number of tickers, and the sum of their periods.
     pub fn told(&self) -> (u32, u32, u32) {
         (
             self.bytes.load(Ordering::SeqCst),
@@ -31,7 +31,7 @@ impl Asked {
     }
 }
 
-/// A door over a list that tells what was asked of it.
+/// A door over a list that records what was asked of it.
 #[derive(Drop)]
 pub struct AskedDoor<'a, L> {
     pub door: ListDoor<L>,

@@ -9,7 +9,7 @@ use std::alloc::Global;
 use std::sync::Wait;
 use std::test::Fail;
 
-// A link on which these bytes come in pieces, and to which `room` bytes can be sent. The listed receives fail.
+// Creates a link that receives these bytes in pieces, and over which `room` bytes can be sent. The listed receives fail.
 fn faulty_link(
     alloc: Global,
     comes: &[u8],
@@ -24,7 +24,7 @@ fn faulty_link(
     Ok(MemLink::new(source, sink))
 }
 
-// What comes, how the connection ends, and what is sent.
+// The bytes received, how the connection ends, and the bytes sent.
 const CONNECTIONS: &[(&[u8], SessionEnd, &[u8])] = &[
     (b"VERSION\nEXIT\n", SessionEnd::Ended, b"0.25.iiosim0\n"),
     (b"VERSION\n", SessionEnd::Eof, b"0.25.iiosim0\n"),
@@ -48,7 +48,7 @@ const CONNECTIONS: &[(&[u8], SessionEnd, &[u8])] = &[
     ),
 ];
 
-// How such a connection ends, and what was sent.
+// Serves such a connection; returns how it ends, and the bytes sent.
 fn served<R: Wait>(
     rt: &R,
     alloc: Global,
@@ -76,7 +76,7 @@ fn one_connection_in_memory(rt: HostRuntime) -> Result<(), Fail> {
     Ok(())
 }
 
-// The receives that fail, the room of the link, and what is sent of the answers to three VERSION that come in one piece each.
+// The receives that fail, the room of the link, and the bytes sent in answer to three VERSION that come in one piece each.
 const FAULTS: &[(&[u64], usize, &[u8])] = &[
     (&[1], 1_000, b""),
     (&[2], 1_000, b"0.25.iiosim0\n"),
@@ -85,7 +85,7 @@ const FAULTS: &[(&[u64], usize, &[u8])] = &[
     (&[], 20, b"0.25.iiosim0\n0.25.ii"),
 ];
 
-// The same of three VERSION, over a link whose calls fail.
+// Serves a connection with three VERSION, over a link whose calls fail; returns how it ends, and the bytes sent.
 fn faulted<R: Wait>(
     rt: &R,
     alloc: Global,

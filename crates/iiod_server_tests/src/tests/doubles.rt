@@ -1,4 +1,4 @@
-//! Links, doors, tickers and gates that a test can see into.
+//! Links, doors, tickers and gates that a test can look into.
 
 ghost use Rattle.std.specs.Prelude.{◌≡◌, ◌≤◌, None, length};
 
@@ -12,7 +12,7 @@ use std::sync::atomic::{AtomicBool, AtomicU32, Ordering};
 use std::thread;
 use std::time::{Clock, Duration, Instant};
 
-/// Looks again, up to `TURNS` times, whether a flag is set. False where it never was.
+/// Waits up to `TURNS` turns for a flag to be set. Returns false if it never was.
 pub fn is_set_in_time<R: Clock>(rt: &R, flag: &AtomicBool) -> bool {
     for _ in 0..TURNS {
         if flag.load(Ordering::SeqCst) {
@@ -23,7 +23,7 @@ pub fn is_set_in_time<R: Clock>(rt: &R, flag: &AtomicBool) -> bool {
     false
 }
 
-/// A link over which texts come, one after another. Before the text of number `fires_at` the trigger is fired twice.
+/// A link over which texts come one after another. Before the text of number `fires_at` the trigger is fired twice.
 #[derive(Drop)]
 pub struct Texts<'a, R> {
     pub rt: &'a R,
@@ -41,7 +41,7 @@ fn fire<R: Wait>(rt: &R, alloc: Global, hub: &Hub, t: i64) {
     hub.sweep(rt, alloc, 0);
 }
 
-// The front of a text, as far as there is room.
+// Copies as much of the beginning of a text as there is room for, and returns its length.
 fn copy_front(text: &[u8], out: &mut [u8]) -> usize
     ensures fits { result ≤ length out.new }
     ensures same { length out.new ≡ length out.old }
@@ -78,7 +78,7 @@ impl<'a, R: Wait> Link for Texts<'a, R> {
     }
 }
 
-/// A link before each receive of which the trigger is fired twice.
+/// A link that fires the trigger twice before each receive.
 #[derive(Drop)]
 pub struct Firing<'a, R, L> {
     pub rt: &'a R,
@@ -110,14 +110,14 @@ impl<'a, R: Wait, L: Link> Link for Firing<'a, R, L> {
     }
 }
 
-// Whether an answer is a number other than 0, of at most three digits.
+// Whether an answer is a number other than 0, with at most three digits.
 fn tells_of_scans(answer: &[u8]) -> bool {
     (answer.starts_with(b"1\n") && answer != b"1\n0\n".as_slice())
         || answer.starts_with(b"2\n")
         || answer.starts_with(b"3\n")
 }
 
-/// A link that opens the device and then asks how many scans wait, until there is one, or `TURNS` times.
+/// A link that opens the device and then asks how many scans wait, until there is one, or at most `TURNS` times.
 #[derive(Drop)]
 pub struct Asking<'a, R> {
     pub rt: R,
@@ -159,8 +159,8 @@ impl<'a, R: Clock> Link for Asking<'a, R> {
 /// The answer to a READBUF of one scan of voltage0 and accel_x.
 pub const BLOCK: &[u8] = b"4\n00000005\n\x10\0\xff\xfd";
 
-/// A link that opens the device, reads one scan once there is one, and closes the device, and goes `left` such rounds; or gives
-/// up after `TURNS` pieces. It tells whether it came to its end, and whether a scan was another than the row's.
+/// A link that opens the device, reads one scan as soon as there is one, and closes the device; it does this `left` times, or
+/// gives up after `TURNS` pieces. It sets `ended` if it came to its end, and `wrong` if a scan was not that of the row.
 #[derive(Drop)]
 pub struct Rounds<'a, R> {
     pub rt: R,
@@ -213,7 +213,7 @@ impl<'a, R: Clock> Link for Rounds<'a, R> {
     }
 }
 
-/// A ticker that gives one moment after another, a tenth of a millisecond apart, up to `TURNS` times a hundred.
+/// A ticker that returns one moment after another, a tenth of a millisecond apart, up to `TURNS` times a hundred.
 #[derive(Drop)]
 pub struct Counting<R> {
     pub rt: R,
@@ -235,7 +235,7 @@ impl<R: Clock> Ticker for Counting<R> {
     }
 }
 
-/// A gate that holds connection 1 where it was heard first, until connection 2 was answered.
+/// A gate that holds connection 1 when it is heard, until connection 2 is answered.
 #[derive(Drop)]
 pub struct Second<R> {
     pub rt: R,
@@ -256,7 +256,7 @@ impl<R: Clock> Gate for Second<R> {
     }
 }
 
-/// A gate that tells when a connection was answered.
+/// A gate that sets a flag when a connection is answered.
 #[derive(Drop)]
 pub struct Answered<'a> {
     pub flag: &'a AtomicBool,
@@ -270,7 +270,7 @@ impl<'a> Gate for Answered<'a> {
     }
 }
 
-/// A gate that counts the connections that were heard, and holds each until the door has ended.
+/// A gate that counts the connections that are heard, and holds each until the door has ended.
 #[derive(Drop)]
 pub struct Crowd<'a, R> {
     pub rt: R,
@@ -287,7 +287,7 @@ impl<'a, R: Clock> Gate for Crowd<'a, R> {
     }
 }
 
-/// A door that tells when it has ended.
+/// A door that sets a flag when it has ended.
 #[derive(Drop)]
 pub struct Ending<'a, D> {
     pub door: D,
@@ -334,7 +334,7 @@ impl<'a, R: Clock> Ticker for Once<'a, R> {
     }
 }
 
-/// A door with one connection. When it is asked for the next, it waits for a flag, unplugs the hub's first device, and ends.
+/// A door with one connection. When it is asked for another, it waits for a flag, unplugs the hub's first device, and ends.
 #[derive(Drop)]
 pub struct Unplugging<'a, R> {
     pub rt: R,
@@ -361,7 +361,7 @@ impl<'a, R: Clock + Wait> Door for Unplugging<'a, R> {
     }
 }
 
-/// A ticker of one tick a millisecond, by the clock, from when a flag is set.
+/// A ticker of one tick per millisecond, by the clock, that begins when a flag is set.
 #[derive(Drop)]
 pub struct Starting<'a, 'b, R> {
     pub rt: R,
@@ -384,7 +384,7 @@ impl<'a, 'b, R: Clock + Copy> Ticker for Starting<'a, 'b, R> {
     }
 }
 
-// The value and the moment of the scan that a block answer has, where it has one.
+// Returns the value and the moment of the scan in a block answer, if it has one.
 fn played_scan(answer: &[u8]) -> Option<(i64, i64)> {
     let scan = answer.strip_prefix(b"16\n00000003\n")?;
     if scan.len() != 16 {
@@ -396,8 +396,9 @@ fn played_scan(answer: &[u8]) -> Option<(i64, i64)> {
     Some((value as i64, i64::from_le_bytes(moment)))
 }
 
-/// A link that opens the device, reads `left` scans one by one, each once there is one, and then stops the ticker; or gives up
-/// after `TURNS` pieces. It counts the scans that are of the row of their moment, at a whole millisecond above the one before.
+/// A link that opens the device, reads `left` scans one by one, each as soon as there is one, and then stops the ticker; or
+/// gives up after `TURNS` pieces. It counts the scans that are of the row of their moment, if this is a whole millisecond and
+/// later than the moment before.
 #[derive(Drop)]
 pub struct Playing<'a, R> {
     pub rt: R,
@@ -412,7 +413,7 @@ pub struct Playing<'a, R> {
 }
 
 impl<'a, R> Playing<'a, R> {
-    // Looks at the scan of an answer, where it has one.
+    // Looks at the scan in an answer, if it has one.
     fn look(&mut self, answer: &[u8])
         ensures { self.new.sent ≡ self.old.sent }
     {

@@ -31,8 +31,8 @@ const SECOND: &[u8] = b"READBUF adc0 1024\x0d\nCLOSE adc0\x0d\nEXIT\x0d\n";
 const ANSWERS: &[u8] =
     b"0.25.iiosim0\n-22\n10\n<context/>\n0\n0\n8\n00000005\n\x10\x00\xff\xfd\x10\x00\xff\xfd0\n0\n";
 
-// A session whose texts come one after another, at a hub whose trigger is fired twice before the text of number `fires_at`:
-// how it ends, and what is answered.
+// Runs a session whose texts come one after another, at a hub whose trigger is fired twice before the text of number
+// `fires_at`. Returns how it ends, and what is answered.
 fn session_of<'a, R: Wait>(
     rt: &'a R,
     alloc: Global,
@@ -67,7 +67,7 @@ fn usual_session_in_any_pieces(rt: HostRuntime) -> Result<(), Fail> {
     Ok(())
 }
 
-// What a second connection is answered to SETTRIG, after a usual session that was lost after that many bytes.
+// Returns the answer to a second connection's SETTRIG, after a usual session that was lost after that many bytes.
 fn answer_after<R: Wait>(rt: &R, alloc: Global, end: usize) -> Result<Vec<u8>, Fail> {
     let first = &FIRST[..end.min(FIRST.len())];
     let second = &SECOND[..end.saturating_sub(FIRST.len()).min(SECOND.len())];
@@ -78,7 +78,7 @@ fn answer_after<R: Wait>(rt: &R, alloc: Global, end: usize) -> Result<Vec<u8>, F
     Ok(next.sent().to_vec(alloc)?)
 }
 
-// A usual session that is lost after each of its bytes leaves no member: the device takes another trigger.
+// A usual session that is lost after any of its bytes leaves no member: the device accepts another trigger.
 #[test]
 fn a_lost_connection_leaves_no_member(rt: HostRuntime) -> Result<(), Fail> {
     for end in 0..FIRST.len() + SECOND.len() {
@@ -88,7 +88,7 @@ fn a_lost_connection_leaves_no_member(rt: HostRuntime) -> Result<(), Fail> {
     Ok(())
 }
 
-// An output device, a device on the same trigger, and an averaging device over it.
+// Describes an output device, a device on the same trigger, and an averaging device over it.
 fn described_with_all_kinds(alloc: Global) -> Result<Desc, Fail>
     ensures { IfOk result (λ desc. IsWellFormed 0 desc) }
 {
@@ -106,7 +106,7 @@ fn described_with_all_kinds(alloc: Global) -> Result<Desc, Fail>
 const NAMING: &[u8] =
     b"OPEN dac0 1 00000001\nWRITEBUF dac0 1\nxREAD dac0 name\nGETTRIG dac0\nWRITEBUF adc0 1\nxOPEN adc0 1 00000001 CYCLIC\nOPEN avg0 1 00000001\nREAD avg0 name\n";
 
-// A hub knows the names of input devices alone, and nothing is written to its devices.
+// A hub knows only the names of input devices, and nothing can be written to its devices.
 #[test]
 fn other_kinds_of_devices_are_unknown(rt: HostRuntime) -> Result<(), Fail> {
     let alloc = rt.alloc();
@@ -122,7 +122,7 @@ fn other_kinds_of_devices_are_unknown(rt: HostRuntime) -> Result<(), Fail> {
     Ok(())
 }
 
-// What comes of a tick, a poll and a handling between an OPEN and a READBUF, and of a tick of a ticker that has ended.
+// The results of a tick, a poll and a handling between an OPEN and a READBUF, and of a tick of a ticker that has ended.
 type Between = (bool, Polled, Option<Handled>, bool);
 
 fn hear_between(
@@ -165,8 +165,8 @@ fn a_bank_is_opened_ticked_polled_and_handled(rt: HostRuntime) -> Result<(), Fai
     Ok(())
 }
 
-// How a session stands after a READBUF that waits, whether the device is unplugged then and once more, and how it stands after
-// another READBUF.
+// Returns how a session stands after a READBUF that waits, whether the device was plugged when it is unplugged then and once
+// more, and how the session stands after another READBUF.
 fn hear_unplugged(
     alloc: Global,
     session: &mut Session<HubSeat>,
@@ -185,7 +185,7 @@ fn hear_unplugged(
     Ok((waits, unplugged, again, told))
 }
 
-// A device that is unplugged under a READBUF that waits: that READBUF and each later one is -19, and CLOSE is no error.
+// A device that is unplugged while a READBUF waits: that READBUF and each later one is answered by -19, and CLOSE is no error.
 #[test]
 fn unplugged_under_a_reader(rt: HostRuntime) -> Result<(), Fail> {
     let alloc = rt.alloc();
@@ -201,7 +201,8 @@ fn unplugged_under_a_reader(rt: HostRuntime) -> Result<(), Fail> {
     Ok(())
 }
 
-// A member of a running hub exchanges its mask: what waited is counted and gone, and the next scan is one of the new mask.
+// A member of a running hub changes its mask: the scans that waited are counted and gone, and the next scan is one of the new
+// mask.
 #[test]
 fn a_member_of_a_hub_exchanges_its_mask(rt: HostRuntime) -> Result<(), Fail> {
     let alloc = rt.alloc();
@@ -235,7 +236,7 @@ fn a_member_of_a_hub_exchanges_its_mask(rt: HostRuntime) -> Result<(), Fail> {
     Ok(())
 }
 
-// At an unplugged device another mask is refused, and the seat stays.
+// At an unplugged device a change of masks is refused, and the seat stays.
 #[test]
 fn a_seat_of_an_unplugged_device_keeps_its_mask(rt: HostRuntime) -> Result<(), Fail> {
     let alloc = rt.alloc();

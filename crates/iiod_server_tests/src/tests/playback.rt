@@ -14,16 +14,16 @@ use std::sync::atomic::{AtomicBool, AtomicU32, Ordering};
 use std::test::Fail;
 use std::time::Clock;
 
-/// How long a row lasts, in nanoseconds.
+/// The time that a row lasts, in nanoseconds.
 pub const ROW: i64 = 10_000_000;
 
-/// How many rows there are; the last one stays.
+/// The number of rows; the last one stays.
 pub const ROWS: i64 = 6;
 
-// How many scans are read, a millisecond apart: more than the rows take.
+// The number of scans that are read, a millisecond apart: they take longer than the rows.
 const SCANS: u32 = 60;
 
-// A device of one voltage and a timestamp. Row k begins at k times `ROW`, and its value is k.
+// Describes a device of one voltage and a timestamp. Row k begins at k times `ROW`, and its value is k.
 fn played(alloc: Global) -> Result<Desc, Fail>
     ensures { IfOk result (λ desc. IsWellFormed 0 desc) }
 {
@@ -41,7 +41,7 @@ fn played(alloc: Global) -> Result<Desc, Fail>
     Ok(reader.finish()?)
 }
 
-// The door with one connection that reads `SCANS` scans.
+// Creates the door with one connection that reads `SCANS` scans.
 fn playing_door<'a, R: Clock>(
     alloc: Global,
     rt: R,
@@ -68,7 +68,7 @@ where
     Ok(ListDoor::new(links, Vec::new(alloc)))
 }
 
-// Each scan is of the row that its timestamp falls into, and the timestamps are whole milliseconds that rise.
+// Each scan is of the row at its timestamp, and the timestamps are whole milliseconds that rise.
 #[test]
 fn rows_play_back_in_real_time(rt: HostRuntime) -> Result<(), Fail> {
     let alloc = rt.alloc();

@@ -1,4 +1,4 @@
-//! A client of a hub, over the loopback.
+//! A client of a hub, over the loopback interface.
 
 ghost use Rattle.std.specs.Prelude.{⊤};
 
@@ -14,7 +14,7 @@ use std::sync::atomic::AtomicBool;
 use std::test::Fail;
 use std::thread;
 
-// The hub's device, as a client is told of it.
+// The description of the hub's device that a client is given.
 const TOLD: &[u8] = b"trigger t0 2
 device adc0 t0
 channel voltage0 le:u12/16>>4
@@ -25,7 +25,7 @@ timestamp
 
 const PRINTED: &[u8] = b"1000fffd voltage0=1 accel_x=-3\n1000fffd voltage0=1 accel_x=-3\n";
 
-/// What a client is told, the link that it begins, and where it prints.
+/// The description that a client is given, the link that it begins, and its output.
 #[derive(Drop)]
 struct Client {
     alloc: Global,
@@ -35,7 +35,7 @@ struct Client {
     link: TcpLink<HostRuntime>,
 }
 
-// Reads the device. Another connection lets a door end that still waits for one.
+// Reads the device. Then another connection is begun, so that a door that still waits for one can end.
 fn read_at(client: &mut Client) -> ReadStatus {
     let words = client.words.as_slice();
     let status = readdev(
@@ -52,7 +52,7 @@ fn read_at(client: &mut Client) -> ReadStatus {
     status
 }
 
-/// A hub, and the door that its one connection comes from.
+/// A hub, and the door from which its one connection comes.
 #[derive(Drop)]
 struct Server<'a, R, D> {
     rt: &'a R,
@@ -61,8 +61,8 @@ struct Server<'a, R, D> {
     door: D,
 }
 
-// Serves the door's next connection, before each receive of which the trigger is fired twice. (The toolchain wants a condition
-// of a function that is lent a hub in a struct.)
+// Serves the door's next connection; before each of its receives the trigger is fired twice. (The toolchain requires a
+// condition of a function that is lent a hub in a struct.)
 fn serve_next<'a, 'b, R: Wait>(
     server: &mut Server<'a, R, TcpDoor<'b, HostRuntime>>,
 ) -> Option<SessionEnd>
@@ -81,7 +81,7 @@ fn serve_next<'a, 'b, R: Wait>(
     Some(end_of(server.rt, server.alloc, server.hub, 1, &mut link))
 }
 
-// The words of a client that reads two scans of the hub's device at a door.
+// Returns the words for a client that reads two scans of the hub's device at a door.
 fn words_for(alloc: Global, address: SocketAddr) -> Result<Vec<String>, Fail> {
     let mut words = Vec::new(alloc);
     words.push(String::from_str(alloc, "readdev")?)?;
@@ -105,7 +105,7 @@ fn client_of(rt: HostRuntime, alloc: Global, address: SocketAddr) -> Result<Clie
     })
 }
 
-// The device of a usual session is read over the loopback by the command that reads devices.
+// The command that reads devices reads the device of a usual session over the loopback interface.
 #[test]
 fn a_client_reads_over_the_loopback(rt: HostRuntime) -> Result<(), Fail> {
     let alloc = rt.alloc();

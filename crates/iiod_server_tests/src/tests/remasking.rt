@@ -1,4 +1,4 @@
-//! REMASK by a server's session over a hub's view of a bank, with polls and handlings between.
+//! REMASK by a server's session over a hub's view of a bank, with polls and handlings in between.
 
 ghost use Rattle.std.specs.Prelude.{◌≡◌, ◌<◌, length, ⊤};
 ghost use Rattle.iiod_hub.specs.Link.{seen_of};
@@ -11,7 +11,7 @@ use iiod_session::{Going, Manner, Mem, Session};
 use std::alloc::Global;
 use std::test::Fail;
 
-// A poll, and a capture.
+// Polls the trigger and makes a capture.
 fn fire(link: &mut HubLink<OwnBank>, t: i64)
     requires { 0 < length (⟦<OwnBank as Bank>⟧.front link.old.bank).devices }
     ensures { ⟦<OwnBank as Bank>⟧.front link.new.bank ≡ ⟦<OwnBank as Bank>⟧.front link.old.bank }
@@ -20,7 +20,7 @@ fn fire(link: &mut HubLink<OwnBank>, t: i64)
     handle(link);
 }
 
-// Another connection has no mask to exchange.
+// Sends a REMASK from another connection, which has no seat and so no mask to change.
 fn hear_another(alloc: Global, link: &mut HubLink<OwnBank>, said: &mut Vec<u8>) -> Result<(), Mem>
     requires { ⊤ }
     ensures { ⟦<OwnBank as Bank>⟧.front link.new.bank ≡ ⟦<OwnBank as Bank>⟧.front link.old.bank }
@@ -32,7 +32,7 @@ fn hear_another(alloc: Global, link: &mut HubLink<OwnBank>, said: &mut Vec<u8>) 
     Ok(())
 }
 
-// What a session hears, with captures between, and how it stands then.
+// Feeds a session, with captures in between, and returns how it stands at the end.
 fn exchange(
     alloc: Global,
     session: &mut Session<HubSeat>,
@@ -65,8 +65,8 @@ fn exchange(
     hear(alloc, session, link, b"READBUF adc0 2\n", said)
 }
 
-// The answers are those of a script: what waited is discarded, and the next scan is one of the new mask. A READBUF that finds
-// nothing then waits.
+// The answers are those of a script: the scans that waited are discarded, and the next scan is one of the new mask. A READBUF
+// that finds nothing then waits.
 #[test]
 fn remask_discards(rt: HostRuntime) -> Result<(), Fail> {
     let alloc = rt.alloc();

@@ -1,4 +1,4 @@
-//! `serve` over sources, sinks and doors in memory. Expected texts by hand.
+//! `serve` over sources, sinks and doors in memory. The expected texts were worked out by hand.
 
 use super::asked::{Asked, AskedDoor};
 use iio_io::{Door, ListDoor, Listen, MemLink, MemSink, MemSource, OpenGate};
@@ -24,8 +24,8 @@ row 0 1 2 -3
 
 const USAGE: &str = "usage: play | solo NAME | layout DEVICE MASK | gen N\n";
 
-/// A server of one connection: its words, its input, the calls that fail at the source, the sink and the door, the room of the
-/// sink, what is printed, the status and its number, and whether the connection is left at the door.
+/// A server of one connection: its words, its input, the calls that fail at the source, the sink's room, the calls that fail at
+/// the door, what is printed, the status and its number, and whether the connection is left at the door.
 #[derive(Clone, Copy)]
 struct Row<'a> {
     name: &'a str,
@@ -40,7 +40,7 @@ struct Row<'a> {
     is_left: bool,
 }
 
-/// A description that is served to the door's end.
+/// A description that is served until the door ends.
 const SERVED: Row<'static> = Row {
     name: "served",
     words: &["serve", "a", "10"],
@@ -54,7 +54,7 @@ const SERVED: Row<'static> = Row {
     is_left: false,
 };
 
-/// Each status but want of memory and an input that is too long.
+/// Each status except `Usage`, `Memory` and `TooLong`.
 const ROWS: &[Row<'static>] = &[
     SERVED,
     Row {
@@ -156,7 +156,7 @@ const WRONG: &[&[&str]] = &[
     &["serve", "a", "18446744073709551626"],
 ];
 
-// A link that asks for a version and ends.
+// Creates a link that asks for a version and ends.
 fn links(alloc: Global) -> Result<Vec<MemLink>, Fail> {
     let source = MemSource::new(b"VERSION\nEXIT\n".to_vec(alloc)?, 100, Vec::new(alloc));
     let mut links = Vec::new(alloc);
@@ -164,7 +164,7 @@ fn links(alloc: Global) -> Result<Vec<MemLink>, Fail> {
     Ok(links)
 }
 
-// What words do with a source, a sink and a door, without drivers.
+// Calls `serve` with these words, a source, a sink and a door, without drivers.
 fn served<R: Threads + Wait + Sync, D: Listen>(
     rt: &R,
     alloc: Global,
@@ -235,7 +235,7 @@ fn other_words_name_the_commands(rt: HostRuntime) -> Result<(), Fail> {
     Ok(())
 }
 
-// One byte more than is looked at, without a line that fails.
+// Creates an input of one byte more than is looked at, without a line that fails.
 fn long_input(alloc: Global) -> Result<MemSource, Fail> {
     let mut text = vec![in alloc; b'#'; 67_108_865]?;
     for line in 0..68usize {
@@ -259,7 +259,7 @@ fn too_long(rt: HostRuntime) -> Result<(), Fail> {
     Ok(())
 }
 
-// Serves two triggers at a door that tells what was asked of it.
+// Serves two triggers at a door that records what was asked of it.
 fn served_at<R: Threads + Wait + Sync>(
     rt: &R,
     alloc: Global,

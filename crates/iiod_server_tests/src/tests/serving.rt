@@ -1,4 +1,4 @@
-//! Servers: connections at once, ticks and sweeps, and how many live at once.
+//! Servers: simultaneous connections, ticks and sweeps, and the limit of connections that live at once.
 
 use super::doubles::{Answered, Asking, Counting, Crowd, Ending, Once, Rounds, Second, Unplugging};
 use super::{hub_of, link_of, serve_timed, serve_untimed};
@@ -11,7 +11,7 @@ use std::sync::atomic::{AtomicBool, AtomicU32, Ordering};
 use std::test::Fail;
 use std::time::Clock;
 
-// As many links on which this comes.
+// Creates `count` links that receive these bytes.
 fn links_of(alloc: Global, count: usize, bytes: &[u8]) -> Result<Vec<MemLink>, Fail> {
     let mut links = Vec::new(alloc);
     for _ in 0..count {
@@ -52,7 +52,7 @@ fn second_is_heard_while_first_waits(rt: HostRuntime) -> Result<(), Fail> {
     Ok(())
 }
 
-// A door with one connection, which asks whether a scan waits.
+// Creates a door with one connection, which asks whether a scan waits.
 fn asking_door<'a, R: Clock>(
     alloc: Global,
     rt: R,
@@ -112,7 +112,7 @@ fn one_connection_too_many_is_unheard(rt: HostRuntime) -> Result<(), Fail> {
     Ok(())
 }
 
-// The door with one connection that goes 20 rounds.
+// Creates a door with one connection that goes through 20 rounds.
 fn rounds_door<'a, R: Clock>(
     alloc: Global,
     rt: R,
@@ -137,7 +137,7 @@ where
     Ok(ListDoor::new(links, Vec::new(alloc)))
 }
 
-// One worker opens, reads and closes the device, while two others poll its trigger and have it make captures.
+// One worker opens, reads and closes the device, while two others poll its trigger and make it capture.
 #[test]
 fn three_workers_use_one_hub(rt: HostRuntime) -> Result<(), Fail> {
     let alloc = rt.alloc();
@@ -153,7 +153,7 @@ fn three_workers_use_one_hub(rt: HostRuntime) -> Result<(), Fail> {
     Ok(())
 }
 
-// The door with one connection whose OPEN comes alone and whose READBUF waits, and which then unplugs the device.
+// Creates a door with one connection, whose OPEN is received alone and whose READBUF waits; the door then unplugs the device.
 fn unplugging_door<'a, R: Clock + Wait>(
     alloc: Global,
     rt: R,

@@ -1,5 +1,5 @@
-//! Sessions over a hub's view of a bank without locks. Each call says here what a session has to know of it, and no more: the
-//! bank's front stays, and what a session has open is of that front.
+//! Sessions over a hub's view of a bank without locks. The contract of each call says here only what a session has to know of
+//! it: the bank's front stays, and what a session has open is of that front.
 
 ghost use Rattle.std.specs.Prelude.{◌≡◌, ◌<◌, length, IfOk, ⊤};
 ghost use Rattle.iiod_hub.specs.Link.{seen_of};
@@ -15,7 +15,7 @@ use iiod_session::{Going, Mem, Session};
 use std::alloc::Global;
 use std::test::Fail;
 
-/// A link to a device at which nobody is.
+/// Creates a link to a device that has no member.
 pub(crate) fn link_to(alloc: Global) -> Result<HubLink<OwnBank>, Fail>
     ensures { IfOk result (λ link. 0 < length (⟦<OwnBank as Bank>⟧.front link.bank).devices) }
 {
@@ -49,7 +49,7 @@ pub(crate) fn poll(link: &mut HubLink<OwnBank>, t: i64) -> Polled
     link.poll(0, t)
 }
 
-/// Polls the trigger at a ticker's next moment, where there is one.
+/// Polls the trigger at a ticker's next moment, if there is one.
 pub(crate) fn tick_once(link: &mut HubLink<OwnBank>, ticker: &mut ListTicker) -> bool
     requires { ⊤ }
     ensures { ⟦<OwnBank as Bank>⟧.front link.new.bank ≡ ⟦<OwnBank as Bank>⟧.front link.old.bank }

@@ -6,7 +6,7 @@ use Rattle.iio_demux.specs.Table.{byte_at}
 use Rattle.iio_demux.proofs.CopyLemmas.{copied_all, copied_more, order_within, so_far}
 use Rattle.iio_demux.proofs.table.copy_entries.Goals as goal
 
--- past the last entry there is none
+-- there is no entry after the last one
 abbrev no_entry : Entry
 no_entry = record { from = 0; to = 0; length = 0 }
 

@@ -5,7 +5,7 @@ use Rattle.std.proofs.lemmas.Int.{ints, quot_fits, quot_is, to_z-of_z}
 use Rattle.iio_derive.proofs.SumLemmas.{mean_fits}
 use Rattle.iio_derive.proofs.sums.mean_of.Goals as goal
 
--- the quotient as the code reckons it
+-- the quotient as the code computes it
 quotient : (size : ℕ) (sum : ℤ) → 1 ≤ size → size ≤ 1000 → FitsSigned w128 sum
     → to_z w128 (of_z w128 (int_div (to_z w128 (of_z w128 sum)) (to_z w128 (of_z w128 (pos size))))) ≡ int_div sum (pos size)
 quotient size sum some few fits =

@@ -3,7 +3,7 @@ use Rattle.iio_device.specs.Sensing.{channels_sensed, begun}
 use Rattle.iio_device.proofs.SensingLemmas.{look_at}
 use Rattle.iio_device.proofs.sensing.sense_all.Given as goal
 
--- how far the look has come
+-- the state of the look so far
 abbrev pub invariant-loop-c : goal.invariant-loop-c
 invariant-loop-c g l = record {
   looked : channels_sensed l.fn.shape l.fn.t l.c (begun (g.P.Sensor.driver l.fn.plug) l.fn.monitor) ≡ look_at (g.P.Sensor.driver l.plug) l.monitor l.count;

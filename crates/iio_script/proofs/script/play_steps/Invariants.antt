@@ -8,7 +8,7 @@ use Rattle.iio_script.specs.Outline.{FindsSame}
 use Rattle.iio_script.proofs.StepLaws.{SoFar}
 use Rattle.iio_script.proofs.script.play_steps.Given as goal
 
--- a line costs no more than its bytes and one: 1,048,577
+-- a line costs at most its bytes and one more: 1,048,577
 abbrev pub invariant-loop-room : goal.invariant-loop-room
 invariant-loop-room g l = record {
   played : (s : Setup) → StandsFor (driver_of (λ b. (g.dyn-1.0.entry b.vtable).1.driver b.value)) s [] l.fn.system → FindsSame l.names s.desc

@@ -29,7 +29,7 @@ returns-then-entry-clause-after c =
     let busy = rw c.deref.ensures.0 at c.if-entry.true in
     rw (← c.self.view_is) (rw (with_in_hand-same c.args.dev c.self.inside.entries.items c.in_ok-at.at s no_entry c.self.invariant.3 busy))
 
--- the row that is written, as a change of the one that stood there
+-- the row that is written, as a change of the one that was there
 abbrev in_hand : Entry → Entry
 in_hand e = record e { in_hand = true }
 

@@ -2,7 +2,7 @@ use Rattle.std.proofs.Common.{◌≡◌, ℕ, ◌+◌, ◌*◌, ◌/◌, ◌%◌
 use Rattle.iio_gen.specs.Generator.{next_state}
 use Rattle.iio_gen.proofs.generator.Generator.draw.Goals as goal
 
--- the remainder may be taken after the product too
+-- the remainder may also be taken after the product
 same_state : (x : ℕ) → (x * 6364136223846793005 % 18446744073709551616 + 1442695040888963407) % 18446744073709551616 ≡ next_state x
 unfolding next_state
 same_state x = omega arith

@@ -36,7 +36,7 @@ returns-then-is_average-clause-answer g c =
     (machine_of (driver_of (λ b. (g.dyn-1.0.entry b.vtable).1.driver b.value)) c.args.self.now) c.args.dev) _
     average)
 
--- ---- another one
+-- ---- another device
 
 pub unplug_all-requires : goal.unplug_all-requires
 unplug_all-requires g c = rw (length_map_is (any_station (λ p. no_driver)) c.args.self.now.devices.items) at c.args.self.now.sound.devices

@@ -18,7 +18,7 @@ split_at-requires c =
     let first = begins c.self.inside.text.now c.self.inside.marks c.self.invariant (omega (arith, c.if-self-eq0.false)) in
     omega (arith, first.start, prefix_len-le-length is_blank c.self.inside.text.now)
 
--- the text from the first word on, and how long that is
+-- the text from the first word on, and its length
 record Begun (begun : List ℕ) (text : List ℕ) (marks place end : ℕ) : Type 0 where
   pub is : begun ≡ drop (prefix_len is_blank text) text
   pub some : 0 < length begun
