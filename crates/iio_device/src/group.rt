@@ -10,7 +10,7 @@ ghost use Rattle.iio_device.specs.Groups.{GroupRecord, IsGroup, has_group, laid_
 
 use iio_base::Mem;
 use iio_demux::Table;
-use iio_layout::{Shape, scan_size};
+use iio_layout::Shape;
 use iio_mask::Mask;
 use std::alloc::Global;
 use std::marker::Model;
@@ -88,14 +88,14 @@ impl Group {
     }
 }
 
-/// Makes each group's table again for another active mask.
-pub(crate) fn remake_all(groups: &mut Vec<Group>, shape: &Shape, active: Mask)
+/// Makes each group's table again for another active mask, under which a scan has `size` bytes.
+pub(crate) fn remake_all(groups: &mut Vec<Group>, shape: &Shape, active: Mask, size: u32)
     requires below { active.bits < 2 ^ count_of shape.now }
+    requires size { size ≡ scan_size shape.now active.bits }
     requires within { All (λ (g : GroupRecord). is_within g.mask active.bits ≡ true) groups.old.items }
     ensures remade { groups.new.items ≡ map (remade shape.now active.bits) groups.old.items }
     ensures capacity { vec_capacity groups.new ≡ vec_capacity groups.old }
 {
-    let size = scan_size(shape, active);
     for i in 0..groups.len() {
         groups[i].remake(shape, active, size);
     }

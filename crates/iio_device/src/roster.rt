@@ -148,9 +148,17 @@ fn keep_wanted<Q>(groups: &mut Vec<Group>, members: &[Membership<Q>], gone: Mask
     drop_group(groups, gone);
 }
 
-// Makes the tables again if there is an active mask and it isn't the one before, for which they were made.
-fn remake_for(groups: &mut Vec<Group>, shape: &Shape, before: Option<Mask>, active: Option<Mask>)
+// Makes the tables again if there is an active mask and it isn't the one before, for which they were made. A scan under the
+// active mask has `size` bytes.
+fn remake_for(
+    groups: &mut Vec<Group>,
+    shape: &Shape,
+    before: Option<Mask>,
+    active: Option<Mask>,
+    size: u32,
+)
     requires below { IfSome active (λ m. m.bits < 2 ^ count_of shape.now) }
+    requires size { IsSize shape.now active size }
     requires within { IfSome active (λ m. All (λ (g : GroupRecord). is_within g.mask m.bits ≡ true) groups.old.items) }
     requires made { All (IsGroup shape.now (unwrap_or (bits_of before) 0)) groups.old.items }
     ensures remade { groups.new.items ≡ remade_for shape.now active groups.old.items }
@@ -160,7 +168,7 @@ fn remake_for(groups: &mut Vec<Group>, shape: &Shape, before: Option<Mask>, acti
         return;
     }
     if let Some(active) = active {
-        remake_all(groups, shape, active);
+        remake_all(groups, shape, active, size);
     }
 }
 
@@ -326,7 +334,14 @@ impl<Q: Tail> Roster<Q> {
             Ok(made) => made,
         };
         let number = self.next;
-        remake_for(&mut self.groups, &self.shape, self.active, Some(active));
+        let size = asked_size_after(&self.shape, self.active, self.size, Some(active));
+        remake_for(
+            &mut self.groups,
+            &self.shape,
+            self.active,
+            Some(active),
+            size,
+        );
         add_group(&mut self.groups, group);
         self.members.push_reserved(Membership {
             number,
@@ -337,7 +352,7 @@ impl<Q: Tail> Roster<Q> {
         self.places.push_reserved(0);
         self.next += 1;
         self.wanted = mask.union(self.wanted);
-        self.size = asked_size_after(&self.shape, self.active, self.size, Some(active));
+        self.size = size;
         self.active = Some(active);
         Ok(number)
     }
@@ -361,10 +376,11 @@ impl<Q: Tail> Roster<Q> {
         }
         let wanted = union_mask(&self.members);
         let active = active_for(&self.shape, &self.members, wanted);
+        let size = asked_size_after(&self.shape, self.active, self.size, active);
         drop_group(&mut self.groups, mask);
-        remake_for(&mut self.groups, &self.shape, self.active, active);
+        remake_for(&mut self.groups, &self.shape, self.active, active, size);
         self.wanted = wanted;
-        self.size = asked_size_after(&self.shape, self.active, self.size, active);
+        self.size = size;
         self.active = active;
         Some(tail)
     }
@@ -432,9 +448,16 @@ impl<Q: Tail> Roster<Q> {
         let before = begin_anew_at(&mut self.members, at, mask, self.captures, tail);
         keep_wanted(&mut self.groups, &self.members, gone);
         self.wanted = union_mask(&self.members);
-        remake_for(&mut self.groups, &self.shape, self.active, Some(active));
+        let size = asked_size_after(&self.shape, self.active, self.size, Some(active));
+        remake_for(
+            &mut self.groups,
+            &self.shape,
+            self.active,
+            Some(active),
+            size,
+        );
         add_group(&mut self.groups, group);
-        self.size = asked_size_after(&self.shape, self.active, self.size, Some(active));
+        self.size = size;
         self.active = Some(active);
         Ok(before)
     }

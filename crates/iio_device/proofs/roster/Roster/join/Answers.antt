@@ -32,7 +32,7 @@ invariant_of-self g c =
           (sound_joins tail.taken tail.lost tail.size roster.shape roster.active c.in-Ok.made.0 roster.captures roster.next roster.members.items
           roster.groups.items m c.in-Ok.made.1
           roster.sound found (search rules) (omega (arith, small, longer)) refl is c.in-Ok.ensures.group c.in-Ok.ensures.none);
-      sized = c.asked_size_after-self.ensures;
+      sized = c.asked_size_after-size.ensures;
       roomy = roster.roomy;
       placed = search rules;
       united = rw c.push_reserved.ensures.items (c.union-self.ensures.value ∙ ap (union_of c.args.mask.bits) roster.united ∙ push_union roster.members.items m);

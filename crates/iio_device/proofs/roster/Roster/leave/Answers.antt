@@ -114,7 +114,7 @@ invariant_of-self-2 g c =
     let ruled : bits_of c.active_for-active.result ≡ active_for roster.shape (masks_of rest) =
     rw (sym c.deref-4.ensures.value) c.active_for-active.ensures.value in
     record {
-      sized = c.asked_size_after-self.ensures;
+      sized = c.asked_size_after-size.ensures;
       roomy = roster.roomy;
       placed = search rules;
       united = c.union_mask-wanted.ensures ∙ ap (λ ms. union_of_all (masks_of ms)) c.deref-3.ensures.value;

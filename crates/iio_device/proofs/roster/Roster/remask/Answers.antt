@@ -65,7 +65,7 @@ invariant_of-self-2 g c =
           c.begin_anew_at-before.new.members.items c.in-Some.at c.args.number c.args.mask c.args.tail roster.groups.items d
           roster.sound inside number (c.begin_anew_at-before.ensures.members d) c.in-Ok.made.0 c.in-Ok.made.1 found
           (search rules) (search rules) (search rules) (search rules) c.requires.fresh c.in-Ok.ensures.group c.in-Ok.ensures.none);
-      sized = c.asked_size_after-self.ensures;
+      sized = c.asked_size_after-size.ensures;
       roomy = roster.roomy;
       united = c.union_mask-self.ensures ∙ ap (λ ms. union_of_all (masks_of ms)) c.deref-3.ensures.value;
       placed = roster.placed ∙ sym (ap length (c.begin_anew_at-before.ensures.members d) ∙ search rules);
