@@ -16,10 +16,10 @@ use Rattle.iiod_grammar.specs.Command.{Remask}
 use Rattle.iiod_grammar.specs.Stream.{Item, Said}
 use Rattle.iiod_reply.specs.Reply.{Reply, Refusal}
 use Rattle.iio_kfifo.specs.declared.limits.TheConstants.{MAX_BYTES}
-use Rattle.iiod_session.specs.Acts.{Acted, act, refused, remask_at, remask_place, remask_seat, remask_wanted, remasked_seat as session_remasked, where_known, zero_reply}
+use Rattle.iiod_commands.specs.Acts.{Acted, act, refused, remask_at, remask_place, remask_seat, remask_wanted, remasked_seat as session_remasked, where_known, zero_reply}
 use Rattle.iio_desc.specs.Kind.{is_input}
 use Rattle.iio_core.specs.Calls.{remask_of, remask_refusals as bench_refusals, station_after_remask as bench_remasked, unless, with_mask}
-use Rattle.iiod_session.specs.Client.{SeatState, ClientRecord, seat_state_remasked, mask_wanted, more_discarded, place_of, with_seats}
+use Rattle.iiod_commands.specs.Client.{SeatState, ClientRecord, seat_state_remasked, mask_wanted, more_discarded, place_of, with_seats}
 use Rattle.iio_core.specs.Front.{kind_at, shape_at}
 use Rattle.iio_core.specs.Machine.{Member as MachineMember, Station as MachineStation, masks_of, member_in, queue_of, scans_in, station_at, with_station, without}
 use Rattle.iio_core.specs.Opening.{mask_refusals}

@@ -2,7 +2,7 @@
 use Rattle.std.proofs.Common.{◌≡◌, ℕ, ◌/◌, Bool, true, false, List, [], ◌∷◌, ◌++◌, map, length, cond, refl, sym, ap, ◌∙◌}
 use Rattle.iio_layout.specs.Shape.{ShapeRecord}
 use Rattle.iio_layout.specs.Layout.{scan_size}
-use Rattle.iiod_session.specs.Client.{more_discarded}
+use Rattle.iiod_commands.specs.Client.{more_discarded}
 use Rattle.iio_history.specs.Who.{Who, Conn, Inner, same, is_among}
 use Rattle.iio_history.specs.Registry.{Member, is_member, without_members}
 use Rattle.iio_core.specs.Moves.{Capture}

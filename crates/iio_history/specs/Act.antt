@@ -11,7 +11,7 @@ use Rattle.iio_desc.specs.Description.{find_device}
 use Rattle.iio_derive.specs.Window.{Window, full_mask, is_filled_by, means_of, sums_with}
 use Rattle.iio_device.specs.Site.{is_current, is_empty}
 use Rattle.iiod_grammar.specs.Command.{Place, Open, Close, Read, ReadBuf, SetTrig, Remask, EvOpen, EvRead, EvClose}
-use Rattle.iiod_session.specs.Attributes.{Assignment, Named, found as found_by, write_found as write_found_by}
+use Rattle.iiod_commands.specs.Attributes.{Assignment, Named, found as found_by, write_found as write_found_by}
 use Rattle.iio_history.specs.Who.{Who, Conn, Inner}
 use Rattle.iiod_grammar.specs.Stream.{Item, Said, Written, Streamed, End}
 use Rattle.iio_history.specs.Event.{Event, Heard, Dropped, Handled, Sensed, Unplugged}

@@ -11,8 +11,8 @@ use Rattle.iio_derive.specs.Window.{full_mask}
 use Rattle.iio_event.specs.Monitor.{MonitorRecord, is_holder}
 use Rattle.iio_device.specs.Site.{Site}
 use Rattle.iiod_grammar.specs.Stream.{Item}
-use Rattle.iiod_session.specs.Acts.{Acted}
-use Rattle.iiod_session.specs.Client.{SeatState, ClientRecord, buffers_of as client_buffers}
+use Rattle.iiod_commands.specs.Acts.{Acted}
+use Rattle.iiod_commands.specs.Client.{SeatState, ClientRecord, buffers_of as client_buffers}
 use Rattle.iio_core.specs.Front.{Front, first_front}
 use Rattle.iio_core.specs.Machine.{Machine, Member as MachineMember, Station as MachineStation}
 use Rattle.iio_history.specs.Who.{Who, Conn, Inner, same}

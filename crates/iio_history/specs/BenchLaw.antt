@@ -8,9 +8,9 @@ use Rattle.iio_layout.specs.Shape.{ShapeRecord}
 use Rattle.iio_desc.specs.Description.{heads_of}
 use Rattle.iiod_grammar.specs.Stream.{Item, End}
 use Rattle.iiod_reply.specs.Reply.{Reply, NoMemory}
-use Rattle.iiod_session.specs.declared.manner.Manner.TheVariants.{Script}
-use Rattle.iiod_session.specs.Acts.{Acts, act, left_client, left_machine}
-use Rattle.iiod_session.specs.Client.{ClientRecord}
+use Rattle.iiod_commands.specs.declared.manner.Manner.TheVariants.{Script}
+use Rattle.iiod_commands.specs.Acts.{Acts, act, left_client, left_machine}
+use Rattle.iiod_commands.specs.Client.{ClientRecord}
 use Rattle.iio_core.specs.Machine.{Machine}
 use Rattle.iiod_session.specs.Run.{FeedTells, State, client_after, machine_after, texts_of}
 use Rattle.iio_history.specs.Event.{Event, Arrived, Heard, Dropped}

@@ -10,7 +10,7 @@ use Rattle.iio_derive.specs.Window.{Window}
 use Rattle.iio_device.specs.Site.{Site, is_empty}
 use Rattle.iio_core.specs.Attached.{Attachment, attachment_by}
 use Rattle.iio_core.specs.Trigger.{Trigger}
-use Rattle.iiod_session.specs.declared.client.TheConstants.{FIRST_BUFFERS}
+use Rattle.iiod_commands.specs.declared.client.TheConstants.{FIRST_BUFFERS}
 use Rattle.iio_history.specs.Who.{Who, same, is_among}
 
 -- ---- plain data

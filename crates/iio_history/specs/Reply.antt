@@ -19,8 +19,8 @@ use Rattle.iio_desc.specs.Description.{find_device, device_name, trigger_name}
 use Rattle.iio_desc.specs.Kind.{Kind, Output, Average, is_input, is_output}
 use Rattle.iio_output.specs.Written.{is_full, is_standing, taken_of}
 use Rattle.iio_device.specs.Site.{is_empty}
-use Rattle.iiod_session.specs.Acts.{help_reply, is_buffers_count, version_reply, zero_reply}
-use Rattle.iiod_session.specs.Attributes.{is_of_buffer, buffer_number as queue_number}
+use Rattle.iiod_commands.specs.Acts.{help_reply, is_buffers_count, version_reply, zero_reply}
+use Rattle.iiod_commands.specs.Attributes.{is_of_buffer, buffer_number as queue_number}
 use Rattle.iio_history.specs.Who.{Who, Conn, same}
 use Rattle.iiod_grammar.specs.Stream.{Item, Said, Written, Streamed, End}
 use Rattle.iio_event.specs.Code.{event_bytes}

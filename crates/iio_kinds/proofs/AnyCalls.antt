@@ -8,7 +8,7 @@ use Rattle.iio_layout.specs.Shape.{ShapeRecord}
 use Rattle.iio_mask.specs.declared.Mask.{Mask}
 use Rattle.iio_trigger.specs.Trigger.{Handed, State}
 use Rattle.iio_core.specs.declared.became.Became.{Became}
-use Rattle.iiod_session.specs.declared.iio.No.{No}
+use Rattle.iiod_commands.specs.declared.iio.No.{No}
 use Rattle.iio_core.specs.Calls.{is_inner_of}
 use Rattle.iio_core.specs.Machine.{Member, Station}
 use Rattle.iio_core.specs.Moves.{Capture, is_due}

@@ -22,8 +22,8 @@ use Rattle.iio_device.specs.Sound.{IsMember}
 use Rattle.iio_base.specs.Refusals.{first_refusal, unless_refused}
 use Rattle.iio_text.specs.declared.errors.Errno.{Errno}
 use Rattle.iio_text.specs.declared.errors.Errno.TheVariants.{EBADF, EINVAL, ENODEV}
-use Rattle.iiod_session.specs.declared.iio.No.{No}
-use Rattle.iiod_session.specs.declared.iio.No.TheVariants.{Errno as NoErrno, Mem as NoMem}
+use Rattle.iiod_commands.specs.declared.iio.No.{No}
+use Rattle.iiod_commands.specs.declared.iio.No.TheVariants.{Errno as NoErrno, Mem as NoMem}
 use Rattle.iio_core.specs.Calls.{is_inner_of, station_after_join, newcomer, station_after_remask, with_mask}
 use Rattle.iio_core.specs.Machine.{Member, Station, is_seat_of, masks_of, member_in, scans_in, without}
 use Rattle.iio_kinds.specs.declared.in_device.Inner.{Inner}

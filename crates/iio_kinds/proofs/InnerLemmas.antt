@@ -24,10 +24,10 @@ use Rattle.iio_device.specs.Members.{is_live}
 use Rattle.iio_device.specs.Sensing.{sensed, with_sensed}
 use Rattle.iio_device.specs.Site.{is_empty, sampled}
 use Rattle.iio_device.specs.Totals.{with_given, with_scan}
-use Rattle.iiod_session.specs.declared.iio.No.{No}
-use Rattle.iiod_session.specs.declared.iio.No.TheVariants.{Errno as NoErrno, Mem as NoMem}
-use Rattle.iiod_session.specs.declared.iio.Took.{Took}
-use Rattle.iiod_session.specs.declared.iio.Took.TheVariants.{Scan, Empty, Gone}
+use Rattle.iiod_commands.specs.declared.iio.No.{No}
+use Rattle.iiod_commands.specs.declared.iio.No.TheVariants.{Errno as NoErrno, Mem as NoMem}
+use Rattle.iiod_commands.specs.declared.iio.Took.{Took}
+use Rattle.iiod_commands.specs.declared.iio.Took.TheVariants.{Scan, Empty, Gone}
 use Rattle.iio_core.specs.Calls.{attr_answer, is_asking, station_after_leave, raw_answer, read_answer, station_after_remask, window_left, with_mask}
 use Rattle.iio_core.specs.Machine.{Member, MemberId, Station, is_id_of, is_seat_of, lost_by, masks_of, member_in, scans_in, with_scans, with_site, without}
 use Rattle.iio_core.specs.Moves.{station_after_look}

@@ -17,11 +17,11 @@ use Rattle.iio_device.specs.Active.{is_without_union}
 use Rattle.iio_device.specs.Device.{DeviceView, device_joined, has_no_place as has_no_place_for, is_bad_mask, is_full as is_full_view, join_faults}
 use Rattle.iio_device.specs.Joining.{member_faults}
 use Rattle.iio_device.specs.Members.{masks_of as masks_of_memberships}
-use Rattle.iiod_session.specs.declared.iio.No.{No}
+use Rattle.iiod_commands.specs.declared.iio.No.{No}
 use Rattle.iio_core.specs.Machine.{masks_of}
 use Rattle.iio_core.specs.Faults.{errno_of}
 use Rattle.iio_core.specs.Opening.{join_refusals}
-use Rattle.iiod_session.specs.No.{no_of}
+use Rattle.iiod_commands.specs.No.{no_of}
 use Rattle.iio_core.specs.Calls.{station_after_join}
 use Rattle.iio_core.specs.Devices.{queue_waits}
 use Rattle.iio_core.proofs.DeviceLaws.{agree, joined_is as plain_joined, masks_are as plain_masks}

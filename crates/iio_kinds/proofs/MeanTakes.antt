@@ -16,8 +16,8 @@ use Rattle.iio_device.specs.declared.totals.Totals.{Totals}
 use Rattle.iio_derive.specs.declared.members.Membership.{Membership}
 use Rattle.iio_derive.specs.Average.{AverageRecord, TakesOf, TakesScansOf}
 use Rattle.iio_derive.specs.Members.{Drains, DrainsScans, member_at}
-use Rattle.iiod_session.specs.declared.iio.Took.{Took}
-use Rattle.iiod_session.specs.declared.iio.Took.TheVariants.{Scan, Empty, Gone}
+use Rattle.iiod_commands.specs.declared.iio.Took.{Took}
+use Rattle.iiod_commands.specs.declared.iio.Took.TheVariants.{Scan, Empty, Gone}
 use Rattle.iio_core.specs.Machine.{Member, MemberId, Station, member_in, scans_in, with_scans}
 use Rattle.iio_kinds.specs.declared.mean_device.MeanSeat.{MeanSeat}
 use Rattle.iio_kinds.specs.Acting.{TakesAt, TakesScansAt, lost_in, nothing_at}

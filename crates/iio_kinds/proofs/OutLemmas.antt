@@ -26,8 +26,8 @@ use Rattle.iio_output.specs.declared.writer.Wrote.TheVariants.{Bytes, BadSize, S
 use Rattle.iio_output.specs.Written.{scans_of, taken_of, is_bad_size, is_full, is_none_left, is_standing, room_of}
 use Rattle.iio_device.specs.Sensing.{begun, channel_sensed, channels_sensed, is_watched, Sensed, sensed, with_sensed}
 use Rattle.iio_device.specs.Site.{is_empty, new_site, no_driver}
-use Rattle.iiod_session.specs.declared.iio.No.{No}
-use Rattle.iiod_session.specs.declared.iio.No.TheVariants.{Errno as NoErrno}
+use Rattle.iiod_commands.specs.declared.iio.No.{No}
+use Rattle.iiod_commands.specs.declared.iio.No.TheVariants.{Errno as NoErrno}
 use Rattle.iio_core.specs.Calls.{bytes_taken, write_refusals, write_scans_at, writes}
 use Rattle.iio_core.specs.Machine.{Member, MemberId, Station, is_id_of, member_in, with_site}
 use Rattle.iio_output.proofs.Scans.{length-scans_of, whole_is}

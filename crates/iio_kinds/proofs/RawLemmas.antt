@@ -13,8 +13,8 @@ use Rattle.iio_device.specs.Device.{DeviceView, after_raw, at_site, raw_answer}
 use Rattle.iio_device.specs.Site.{is_empty, sampled}
 use Rattle.iio_core.specs.Faults.{raw_value}
 use Rattle.iio_core.specs.Machine.{with_site}
-use Rattle.iiod_session.specs.declared.iio.No.{No}
-use Rattle.iiod_session.specs.No.{raw_no}
+use Rattle.iiod_commands.specs.declared.iio.No.{No}
+use Rattle.iiod_commands.specs.No.{raw_no}
 use Rattle.iio_kinds.specs.Acting.{ReadsInput}
 use Rattle.iio_kinds.specs.Station.{member_of, station_of}
 use Rattle.iio_kinds.proofs.EmptyLemmas.{is_empty-map}

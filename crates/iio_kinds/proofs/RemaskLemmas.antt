@@ -13,12 +13,12 @@ use Rattle.iio_device.specs.declared.roster.RemaskFault.{RemaskFault}
 use Rattle.iio_device.specs.declared.roster.RemaskFault.TheVariants as fault
 use Rattle.iio_device.specs.Device.{DeviceView, RemasksDevice, is_bad_mask, remask_faults}
 use Rattle.iio_device.specs.Members.{member_of as membership_of}
-use Rattle.iiod_session.specs.declared.iio.No.{No}
-use Rattle.iiod_session.specs.declared.iio.No.TheVariants.{Errno as NoErrno}
+use Rattle.iiod_commands.specs.declared.iio.No.{No}
+use Rattle.iiod_commands.specs.declared.iio.No.TheVariants.{Errno as NoErrno}
 use Rattle.iio_core.specs.Calls.{remask_refusals, station_after_remask}
 use Rattle.iio_core.specs.Machine.{Member, MemberId, member_in, scans_in}
 use Rattle.iio_core.specs.Faults.{remask_errno}
-use Rattle.iiod_session.specs.No.{remask_no}
+use Rattle.iiod_commands.specs.No.{remask_no}
 use Rattle.iio_core.specs.Devices.{queue_waits}
 use Rattle.iio_core.proofs.DeviceRemasks.{refusals_are, remasked_is, waited_is}
 use Rattle.iio_kinds.specs.Acting.{Acts, has_member}

@@ -17,8 +17,8 @@ use Rattle.iio_device.specs.Device.{DeviceView}
 use Rattle.iio_device.specs.Members.{member_of as membership_of}
 use Rattle.iio_device.specs.Roster.{ChangesOne, Standing, Takes, TakesScans}
 use Rattle.iio_device.specs.Totals.{with_bytes, with_given, with_taken}
-use Rattle.iiod_session.specs.declared.iio.Took.{Took}
-use Rattle.iiod_session.specs.declared.iio.Took.TheVariants.{Scan, Empty, Gone}
+use Rattle.iiod_commands.specs.declared.iio.Took.{Took}
+use Rattle.iiod_commands.specs.declared.iio.Took.TheVariants.{Scan, Empty, Gone}
 use Rattle.iio_core.specs.Machine.{Member, MemberId, Station, scans_in, with_scans}
 use Rattle.iio_kinds.specs.Acting.{TakesAt, TakesScansAt, nothing_at}
 use Rattle.iio_kinds.specs.Station.{member_of, station_of}

@@ -15,11 +15,11 @@ use Rattle.iio_device.specs.declared.membership.Membership.{Membership}
 use Rattle.iio_device.specs.Device.{DeviceView}
 use Rattle.iio_device.specs.Site.{sampled}
 use Rattle.iio_device.specs.Totals.{with_given, with_scan}
-use Rattle.iiod_session.specs.declared.iio.No.{No}
-use Rattle.iiod_session.specs.declared.iio.No.TheVariants.{Errno as NoErrno, Mem as NoMem}
-use Rattle.iiod_session.specs.declared.iio.Took.{Took}
-use Rattle.iiod_session.specs.declared.iio.Took.TheVariants.{Scan, Empty, Gone}
-use Rattle.iiod_session.specs.Attributes.{has_attribute}
+use Rattle.iiod_commands.specs.declared.iio.No.{No}
+use Rattle.iiod_commands.specs.declared.iio.No.TheVariants.{Errno as NoErrno, Mem as NoMem}
+use Rattle.iiod_commands.specs.declared.iio.Took.{Took}
+use Rattle.iiod_commands.specs.declared.iio.Took.TheVariants.{Scan, Empty, Gone}
+use Rattle.iiod_commands.specs.Attributes.{has_attribute}
 use Rattle.iio_core.specs.Calls.{is_asking, read_answer}
 use Rattle.iio_core.specs.Machine.{Member, MemberId, Station, member_in, scans_in, with_scans, with_site}
 use Rattle.iio_kinds.specs.Station.{station_of}

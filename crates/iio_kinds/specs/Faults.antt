@@ -16,8 +16,8 @@ use Rattle.iio_device.specs.Device.{DeviceView, device_joined, has_no_place, is_
 use Rattle.iio_device.specs.Joining.{member_faults}
 use Rattle.iio_device.specs.Members.{masks_of}
 use Rattle.iio_device.specs.Site.{is_empty}
-use Rattle.iiod_session.specs.declared.iio.No.{No}
-use Rattle.iiod_session.specs.declared.iio.No.TheVariants.{Errno as NoErrno, Mem as NoMem}
+use Rattle.iiod_commands.specs.declared.iio.No.{No}
+use Rattle.iiod_commands.specs.declared.iio.No.TheVariants.{Errno as NoErrno, Mem as NoMem}
 use Rattle.std.specs.List.{list_any}
 use Rattle.iio_desc.specs.Description.{DeviceHead}
 use Rattle.iio_desc.specs.Kind.{Kind, is_input, is_output}

@@ -10,8 +10,8 @@ use Rattle.iio_output.specs.declared.writer.Wrote.{Wrote}
 use Rattle.iio_output.specs.declared.writer.Wrote.TheVariants.{Bytes, BadSize, Standing, Full}
 use Rattle.iio_device.specs.Site.{is_empty, new_site, no_driver}
 use Rattle.iio_device.specs.Totals.{no_totals}
-use Rattle.iiod_session.specs.declared.iio.No.{No}
-use Rattle.iiod_session.specs.declared.iio.No.TheVariants.{Errno as NoErrno}
+use Rattle.iiod_commands.specs.declared.iio.No.{No}
+use Rattle.iiod_commands.specs.declared.iio.No.TheVariants.{Errno as NoErrno}
 use Rattle.iio_core.specs.Machine.{Member, Station, new_station}
 use Rattle.iio_kinds.specs.declared.out_device.OutDevice.{OutDevice}
 

@@ -19,7 +19,7 @@ ghost use Rattle.iio_output.specs.Written.{scans_of};
 ghost use Rattle.iio_trigger.specs.Trigger.{without_entry};
 ghost use Rattle.iio_device.specs.Device.{has_no_place};
 ghost use Rattle.iio_device.specs.Site.{is_empty, site_written, with_monitor, unplugged};
-ghost use Rattle.iiod_session.specs.declared.iio.No.TheVariants.{Mem};
+ghost use Rattle.iiod_commands.specs.declared.iio.No.TheVariants.{Mem};
 ghost use Rattle.iio_core.specs.Calls.{ev_open_answer, ev_read_answer, has_no_number, holds_events, inner_gone, is_inner_of, station_after_join, station_after_leave, station_after_remask, trigger_answer, write_scans_at, writes};
 ghost use Rattle.iio_core.specs.Machine.{Station, scans_in, with_site};
 ghost use Rattle.iio_core.specs.Moves.{Capture, kind_sensed, station_after_look};
@@ -44,7 +44,7 @@ use iio_mask::Mask;
 use iio_sensor::Sensor;
 use iio_text::Fixed;
 use iio_trigger::{Due, Trigger};
-use iiod_session::{Counts, No, Took};
+use iiod_commands::{Counts, No, Took};
 use std::alloc::Global;
 
 /// A device of a bench.

@@ -25,7 +25,7 @@ use iio_device::{Sensed, Totals};
 use iio_layout::{Shape, scan_size};
 use iio_mask::Mask;
 use iio_text::Errno;
-use iiod_session::{Counts, No, Took};
+use iiod_commands::{Counts, No, Took};
 use std::alloc::Global;
 
 // The slot of the member of that number.

@@ -9,7 +9,7 @@ ghost use Rattle.iio_desc.specs.declared.limits.TheConstants.{MAX_TRIGGERS};
 ghost use Rattle.iio_event.specs.Monitor.{after_close, after_open, after_read};
 ghost use Rattle.iio_layout.specs.Layout.{scan_size};
 ghost use Rattle.iio_device.specs.Site.{Site, site_written, with_monitor};
-ghost use Rattle.iiod_session.specs.declared.iio.No.TheVariants.{Mem};
+ghost use Rattle.iiod_commands.specs.declared.iio.No.TheVariants.{Mem};
 ghost use Rattle.iio_core.specs.Calls.{ev_open_answer, ev_read_answer, holds_events, trigger_answer};
 ghost use Rattle.iio_core.specs.Machine.{scans_in, with_site};
 ghost use Rattle.iio_kinds.specs.Acting.{Acts, Keeps, KeepsCaptures, ReadsInput, TakesAt, TakesScansAt, has_member, id_of, lost_in, nothing_at};
@@ -25,7 +25,7 @@ use iio_mask::Mask;
 use iio_sensor::Sensor;
 use iio_text::{Errno, Fixed};
 use iio_trigger::Due;
-use iiod_session::{Counts, No, Took, held_no, holder_no, raw_no};
+use iiod_commands::{Counts, No, Took, held_no, holder_no, raw_no};
 
 /// Returns the value of an attribute. For `raw` the sensor is asked at `t`.
 pub(crate) fn read_attr(

@@ -14,7 +14,7 @@ ghost use Rattle.iio_layout.specs.Layout.{scan_size};
 ghost use Rattle.iio_layout.specs.Shape.{count_of};
 ghost use Rattle.iio_device.specs.Device.{has_no_place};
 ghost use Rattle.iio_device.specs.Site.{site_written, with_monitor, unplugged};
-ghost use Rattle.iiod_session.specs.declared.iio.No.TheVariants.{Mem};
+ghost use Rattle.iiod_commands.specs.declared.iio.No.TheVariants.{Mem};
 ghost use Rattle.iio_core.specs.Calls.{ev_open_answer, ev_read_answer, holds_events, inner_gone, is_inner_of, station_after_leave, station_after_remask, trigger_answer};
 ghost use Rattle.iio_core.specs.Machine.{scans_in, with_site};
 ghost use Rattle.iio_kinds.specs.Acting.{Acts, KeepsCaptures, Reads, TakesAt, TakesScansAt, id_of, lost_in};
@@ -42,7 +42,7 @@ use iio_mask::Mask;
 use iio_sensor::Sensor;
 use iio_text::{Errno, Fixed};
 use iio_trigger::{Due, Trigger};
-use iiod_session::{Counts, No, Took};
+use iiod_commands::{Counts, No, Took};
 use std::alloc::Global;
 
 // Ensures that the types of a shape's channels are in the profile.

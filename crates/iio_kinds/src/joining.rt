@@ -20,7 +20,7 @@ use iio_layout::scan_size;
 use iio_mask::Mask;
 use iio_sensor::Sensor;
 use iio_trigger::Trigger;
-use iiod_session::{No, no_of};
+use iiod_commands::{No, no_of};
 use std::alloc::Global;
 
 // Returns `trigger`, the number of the device's trigger, if a member of that mask may join by it.

@@ -16,7 +16,7 @@ use iio_kfifo::Kfifo;
 use iio_mask::Mask;
 use iio_sensor::Sensor;
 use iio_text::Errno;
-use iiod_session::{No, remask_no};
+use iiod_commands::{No, remask_no};
 use std::alloc::Global;
 
 // Gives the member of a seat the mask, with a queue for scans of `size` bytes and of the seat's capacity. Returns how many

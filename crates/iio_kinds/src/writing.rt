@@ -33,7 +33,7 @@ use iio_mask::Mask;
 use iio_output::{Next, Out, OutFault, Wrote};
 use iio_text::Errno;
 use iio_trigger::{Due, Trigger};
-use iiod_session::{Counts, No};
+use iiod_commands::{Counts, No};
 use std::alloc::Global;
 
 // The answer to a payload.

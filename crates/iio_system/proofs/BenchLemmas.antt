@@ -13,10 +13,10 @@ use Rattle.iio_trigger.specs.Trigger.{State}
 use Rattle.iio_device.specs.declared.totals.Totals.{Totals}
 use Rattle.iio_device.specs.Site.{is_empty, site_written, with_monitor}
 use Rattle.iio_event.specs.Monitor.{MonitorRecord}
-use Rattle.iiod_session.specs.declared.iio.No.{No}
-use Rattle.iiod_session.specs.declared.iio.No.TheVariants.{Errno as NoErrno, Mem as NoMem}
-use Rattle.iiod_session.specs.declared.iio.Took.{Took}
-use Rattle.iiod_session.specs.declared.iio.Took.TheVariants.{Scan, Empty, Gone}
+use Rattle.iiod_commands.specs.declared.iio.No.{No}
+use Rattle.iiod_commands.specs.declared.iio.No.TheVariants.{Errno as NoErrno, Mem as NoMem}
+use Rattle.iiod_commands.specs.declared.iio.Took.{Took}
+use Rattle.iiod_commands.specs.declared.iio.Took.TheVariants.{Scan, Empty, Gone}
 use Rattle.iio_core.specs.Attached.{is_attached}
 use Rattle.iio_core.specs.Machine.{Member, MemberId, Station, is_id_of, with_scans, with_site, attachment_of}
 use Rattle.iio_core.specs.Calls.{is_inner_of, trigger_answer}

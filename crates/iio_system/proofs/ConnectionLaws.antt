@@ -2,13 +2,13 @@
 use Rattle.std.proofs.Common.{◌≡◌, ℕ, List, [], Option, refl, sym, ap, ◌∙◌}
 use Rattle.iiod_grammar.specs.Scans.{scan_on}
 use Rattle.iiod_grammar.specs.Stream.{Scanned, Scanner, items_from, no_item}
-use Rattle.iiod_session.specs.declared.manner.Going.{Going}
-use Rattle.iiod_session.specs.declared.manner.Going.TheVariants.{On, Waits, Ended}
-use Rattle.iiod_session.specs.declared.manner.Manner.TheVariants.{Script, Server}
+use Rattle.iiod_session.specs.declared.going.Going.{Going}
+use Rattle.iiod_session.specs.declared.going.Going.TheVariants.{On, Waits, Ended}
+use Rattle.iiod_commands.specs.declared.manner.Manner.TheVariants.{Script, Server}
 use Rattle.iio_core.specs.Front.{Front}
 use Rattle.iio_core.specs.Machine.{Machine}
 use Rattle.iiod_session.specs.Run.{Feeds, FeedTells, State, state_of}
-use Rattle.iiod_session.specs.Seat.{SeatRecord}
+use Rattle.iiod_commands.specs.Seat.{SeatRecord}
 use Rattle.iiod_session.specs.Session.{SessionRecord}
 use Rattle.iio_history.specs.Registry.{Setup}
 use Rattle.iio_history.specs.Told.{Told}

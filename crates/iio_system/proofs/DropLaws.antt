@@ -2,11 +2,11 @@
 use Rattle.std.proofs.Common.{◌≡◌, ℕ, ◌<◌, ◌||◌, not, Bool, true, false, cond, List, [], ◌∷◌, length, map, get_or, set, Option, Some, None, is_some, option_map, refl, sym, ap, ◌∙◌, subst, append-nil}
 use Rattle.std.specs.Prelude.{codes}
 use Rattle.std.specs.Str.{bytes_eq}
-use Rattle.iiod_session.specs.Acts.{left_client, left_machine}
-use Rattle.iiod_session.specs.Client.{ClientRecord, client_of}
+use Rattle.iiod_commands.specs.Acts.{left_client, left_machine}
+use Rattle.iiod_commands.specs.Client.{ClientRecord, client_of}
 use Rattle.iio_core.specs.Front.{Front}
 use Rattle.iio_core.specs.Machine.{Machine}
-use Rattle.iiod_session.specs.Seat.{SeatRecord}
+use Rattle.iiod_commands.specs.Seat.{SeatRecord}
 use Rattle.iiod_session.specs.Session.{SessionRecord}
 use Rattle.iio_history.specs.Event.{Dropped}
 use Rattle.iio_history.specs.Registry.{Registry, Setup, ConnectionRecord, is_live, user_named}

@@ -6,8 +6,8 @@ use Rattle.iiod_grammar.specs.declared.lines.TheConstants.{MAX_LINE, MAX_PAYLOAD
 use Rattle.iiod_grammar.specs.Command.{Command, Exit, Write, WriteBuf, command_of}
 use Rattle.iiod_grammar.specs.Stream.{AtEnd, InLine, InPayload, Item, End, OfWrite, OfWriteBuf, Pending, Scanned, Scanner, after_byte, after_bytes, after_line, after_said, ended_by, items_from, no_item, one_item, payload_after, payload_begun, scanner_after, with_payload}
 use Rattle.std.specs.Prelude.{Option, None, Some}
-use Rattle.iiod_session.specs.Acts.{act}
-use Rattle.iiod_session.specs.Client.{ClientRecord}
+use Rattle.iiod_commands.specs.Acts.{act}
+use Rattle.iiod_commands.specs.Client.{ClientRecord}
 use Rattle.iio_core.specs.Front.{Front}
 use Rattle.iio_core.specs.Machine.{Machine}
 use Rattle.iiod_session.specs.Run.{client_after, machine_after}

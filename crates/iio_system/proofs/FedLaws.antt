@@ -3,11 +3,11 @@ use Rattle.std.proofs.Common.{◌≡◌, ℕ, suc, ◌<◌, ◌||◌, Bool, true
 use Rattle.std.specs.Str.{bytes_eq}
 use Rattle.iio_text.specs.Escape.{quoted}
 use Rattle.iiod_grammar.specs.Stream.{AtEnd, InLine, InPayload, Scanner, items_from, scanner_after}
-use Rattle.iiod_session.specs.Client.{ClientRecord, client_of}
+use Rattle.iiod_commands.specs.Client.{ClientRecord, client_of}
 use Rattle.iio_core.specs.Front.{Front}
 use Rattle.iio_core.specs.Machine.{Machine}
 use Rattle.iiod_session.specs.Run.{client_after}
-use Rattle.iiod_session.specs.Seat.{SeatRecord}
+use Rattle.iiod_commands.specs.Seat.{SeatRecord}
 use Rattle.iiod_session.specs.Session.{SessionRecord}
 use Rattle.iio_history.specs.Event.{Event, Arrived, Heard}
 use Rattle.iio_history.specs.Registry.{Setup, ConnectionRecord, has_ended, user_named}

@@ -5,10 +5,10 @@ use Rattle.std.specs.Str.{bytes_eq}
 use Rattle.std.proofs.lemmas.Option.{slice_get-get_or}
 use Rattle.iio_text.specs.Escape.{quoted}
 use Rattle.iiod_grammar.specs.Stream.{Scanner, InLine, items_from, scanner_after}
-use Rattle.iiod_session.specs.declared.manner.Manner.TheVariants.{Script}
+use Rattle.iiod_commands.specs.declared.manner.Manner.TheVariants.{Script}
 use Rattle.iio_core.specs.Front.{Front}
 use Rattle.iio_core.specs.Machine.{Machine}
-use Rattle.iiod_session.specs.Seat.{SeatRecord}
+use Rattle.iiod_commands.specs.Seat.{SeatRecord}
 use Rattle.iiod_session.specs.Session.{IsFresh, SessionRecord}
 use Rattle.iio_history.specs.Event.{Event, Arrived}
 use Rattle.iio_history.specs.Registry.{Setup, has_ended}

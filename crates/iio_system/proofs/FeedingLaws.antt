@@ -4,7 +4,7 @@ use Rattle.iio_text.specs.Escape.{quoted}
 use Rattle.iiod_grammar.specs.Stream.{AtEnd, InLine, InPayload, Scanned, Scanner, items_from, no_item, scanner_after}
 use Rattle.iio_core.specs.Front.{Front}
 use Rattle.iio_core.specs.Machine.{Machine}
-use Rattle.iiod_session.specs.Seat.{SeatRecord}
+use Rattle.iiod_commands.specs.Seat.{SeatRecord}
 use Rattle.iiod_session.specs.Session.{SessionRecord}
 use Rattle.iio_history.specs.Registry.{Setup}
 use Rattle.iio_history.specs.Told.{Told}

@@ -5,10 +5,10 @@ use Rattle.std.proofs.lemmas.Slice.Eq.{bytes_eq-Decides}
 use Rattle.iiod_grammar.specs.Command.{Open, Close, Read, ReadBuf, GetTrig, SetBuffers, Remask}
 use Rattle.iiod_grammar.specs.Stream.{Item, Said, End, Scanner, items_from}
 use Rattle.iio_desc.specs.Kind.{is_input}
-use Rattle.iiod_session.specs.Client.{SeatState, ClientRecord, client_of}
+use Rattle.iiod_commands.specs.Client.{SeatState, ClientRecord, client_of}
 use Rattle.iio_core.specs.Front.{Front, find_device, kind_at}
 use Rattle.iio_core.specs.Machine.{Machine}
-use Rattle.iiod_session.specs.Seat.{SeatRecord}
+use Rattle.iiod_commands.specs.Seat.{SeatRecord}
 use Rattle.iiod_session.specs.Session.{SessionRecord}
 use Rattle.iio_device.specs.Site.{is_empty}
 use Rattle.iio_history.specs.Registry.{Setup, has_ended}

@@ -17,19 +17,19 @@ use Rattle.iio_sensor.specs.Driver.{Driver}
 use Rattle.iio_trigger.specs.Trigger.{State}
 use Rattle.iio_device.specs.declared.plug.Plug.{Plug}
 use Rattle.iio_device.specs.Site.{no_driver, sampled, site_written, with_monitor}
-use Rattle.iiod_session.specs.declared.iio.No.{No}
-use Rattle.iiod_session.specs.declared.iio.No.TheVariants.{Errno as NoErrno, Mem as NoMem}
-use Rattle.iiod_session.specs.declared.iio.Took.{Took}
+use Rattle.iiod_commands.specs.declared.iio.No.{No}
+use Rattle.iiod_commands.specs.declared.iio.No.TheVariants.{Errno as NoErrno, Mem as NoMem}
+use Rattle.iiod_commands.specs.declared.iio.Took.{Took}
 use Rattle.iio_desc.specs.Description.{DeviceHead}
 use Rattle.iio_desc.specs.Kind.{Kind, Input, Output, Average, is_input}
 use Rattle.iio_attr.specs.declared.attributes.Attr.TheVariants as attr
 use Rattle.iio_attr.specs.Attributes.{is_writable}
 use Rattle.iio_output.specs.Written.{scans_of, taken_of}
-use Rattle.iiod_session.specs.Attributes.{has_attribute}
+use Rattle.iiod_commands.specs.Attributes.{has_attribute}
 use Rattle.iio_core.specs.Front.{Front, kind_at, shape_at}
 use Rattle.iio_core.specs.Machine.{Member, MemberId, Station, is_id_of, with_site}
 use Rattle.iio_core.specs.Calls.{ev_open_answer, ev_read_answer, holds_events, is_asking, is_inner_of, read_answer, trigger_answer, write_scans_at, writes}
-use Rattle.iiod_session.specs.Target.{MayRead, MayWrite}
+use Rattle.iiod_commands.specs.Target.{MayRead, MayWrite}
 use Rattle.iio_kinds.specs.Acting.{Acts, MayReadOf, Reads, TakesAt, TakesScansAt, Turns}
 use Rattle.iio_system.specs.Averages.{IsAveraged}
 use Rattle.iio_system.specs.Bench.{Kept}

@@ -19,14 +19,14 @@ use Rattle.iio_trigger.specs.Trigger.{State}
 use Rattle.iio_device.specs.declared.plug.Plug.{Plug}
 use Rattle.iio_device.specs.Active.{is_without_union}
 use Rattle.iio_device.specs.Site.{is_empty, no_driver}
-use Rattle.iiod_session.specs.declared.iio.No.{No}
-use Rattle.iiod_session.specs.declared.iio.No.TheVariants.{Errno as NoErrno, Mem as NoMem}
+use Rattle.iiod_commands.specs.declared.iio.No.{No}
+use Rattle.iiod_commands.specs.declared.iio.No.TheVariants.{Errno as NoErrno, Mem as NoMem}
 use Rattle.iio_core.specs.Attached.{has_no_place}
 use Rattle.iio_core.specs.Calls.{all_joined, machine_after_close, has_no_number, inner_gone, is_inner_of, station_after_join, station_after_leave, newcomer, open_of, open_refusals, CallResult, unless_made}
 use Rattle.iio_core.specs.Front.{Front, kind_at, shape_at}
 use Rattle.iio_core.specs.Machine.{Machine, Member, Station, masks_of, station_at, station_in, attachments_of}
 use Rattle.iio_core.specs.Opening.{join_refusals, inner_host}
-use Rattle.iiod_session.specs.Seat.{Answers, IsNew, number_by as number_of}
+use Rattle.iiod_commands.specs.Seat.{Answers, IsNew, number_by as number_of}
 use Rattle.iio_core.proofs.PlaceLists.{same_number}
 use Rattle.iio_kinds.specs.declared.any_device.AnyDevice.{AnyDevice}
 use Rattle.iio_kinds.specs.declared.any_device.AnyDevice.TheVariants as any

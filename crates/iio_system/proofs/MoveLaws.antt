@@ -14,10 +14,10 @@ use Rattle.iio_device.specs.declared.handling.Sensed.{Sensed as Look}
 use Rattle.iio_device.specs.declared.handling.Sensed.TheVariants as sense
 use Rattle.iio_device.specs.declared.plug.Plug.{Plug}
 use Rattle.iio_device.specs.Site.{at_place}
-use Rattle.iiod_session.specs.Client.{ClientRecord}
+use Rattle.iiod_commands.specs.Client.{ClientRecord}
 use Rattle.iio_core.specs.Front.{Front, device_name, kind_at, shape_at, trigger_name}
 use Rattle.iio_core.specs.Machine.{Machine, Member, Station, is_plugged, no_station, station_at}
-use Rattle.iiod_session.specs.Seat.{SeatRecord}
+use Rattle.iiod_commands.specs.Seat.{SeatRecord}
 use Rattle.iio_history.specs.Event.{Event, Arrived, Clock, Dropped, Handled, Heard, Polled, Sensed, Unplugged}
 use Rattle.iio_history.specs.Registry.{Registry, Setup, ConnectionRecord}
 use Rattle.iio_core.specs.Moves.{entry_answer, kind_sensed, machine_after_handling, machine_after_look, machine_after_unplugging, entry_in, machine_after_poll, polled_answer}

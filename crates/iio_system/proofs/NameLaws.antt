@@ -8,7 +8,7 @@ use Rattle.std.proofs.lemmas.List.Folds.{list_any_at, list_any_none}
 use Rattle.std.proofs.lemmas.List.Quantifiers.{position-Some}
 use Rattle.std.proofs.lemmas.List.Sums.{fails_before_first}
 use Rattle.iio_core.specs.Front.{Front}
-use Rattle.iiod_session.specs.Seat.{SeatRecord}
+use Rattle.iiod_commands.specs.Seat.{SeatRecord}
 use Rattle.iio_history.specs.Script.{is_known, max_names}
 use Rattle.iio_history.specs.Told.{Line, Told}
 use Rattle.iio_history.specs.Transcript.{line_named}

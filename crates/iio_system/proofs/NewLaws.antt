@@ -2,11 +2,11 @@
 use Rattle.std.proofs.Common.{◌≡◌, ℕ, suc, ◌||◌, Bool, true, false, cond, List, [], ◌∷◌, ◌++◌, length, map, Option, Some, None, option_map, is_some, refl, sym, ap, ◌∙◌, subst, true≢false}
 use Rattle.std.specs.Str.{bytes_eq}
 use Rattle.iiod_grammar.specs.Stream.{InLine, items_from, scanner_after}
-use Rattle.iiod_session.specs.declared.manner.Manner.TheVariants.{Script}
-use Rattle.iiod_session.specs.Client.{ClientRecord, client_of}
+use Rattle.iiod_commands.specs.declared.manner.Manner.TheVariants.{Script}
+use Rattle.iiod_commands.specs.Client.{ClientRecord, client_of}
 use Rattle.iio_core.specs.Front.{Front}
 use Rattle.iio_core.specs.Machine.{Machine}
-use Rattle.iiod_session.specs.Seat.{SeatRecord}
+use Rattle.iiod_commands.specs.Seat.{SeatRecord}
 use Rattle.iiod_session.specs.Session.{IsFresh, SessionRecord}
 use Rattle.iio_history.specs.Event.{Arrived}
 use Rattle.iio_history.specs.Registry.{Setup, ConnectionRecord, has_ended, user_named}

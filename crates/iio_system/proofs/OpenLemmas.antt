@@ -24,8 +24,8 @@ use Rattle.iio_trigger.specs.Trigger.{State, with_place, without_place}
 use Rattle.iio_device.specs.declared.plug.Plug.{Plug}
 use Rattle.iio_device.specs.Device.{has_no_place}
 use Rattle.iio_device.specs.Site.{Site, attached, is_empty, no_driver}
-use Rattle.iiod_session.specs.declared.iio.No.{No}
-use Rattle.iiod_session.specs.declared.iio.No.TheVariants.{Errno as NoErrno, Mem as NoMem}
+use Rattle.iiod_commands.specs.declared.iio.No.{No}
+use Rattle.iiod_commands.specs.declared.iio.No.TheVariants.{Errno as NoErrno, Mem as NoMem}
 use Rattle.iio_core.specs.Opening.{own_host}
 use Rattle.iio_core.specs.Attached.{is_attached}
 use Rattle.iio_core.specs.Trigger.{Trigger}
@@ -34,7 +34,7 @@ use Rattle.iio_desc.specs.Description.{DeviceHead}
 use Rattle.iio_desc.specs.Kind.{Kind, Input, Output, Average, is_average}
 use Rattle.iio_core.specs.Machine.{Machine, Member, Station, is_seat_of, no_station, station_at, station_in, with_station, attachment_of, masks_of}
 use Rattle.iio_core.specs.Calls.{machine_after_close, inner_gone, is_inner_of, station_after_join, station_after_leave, newcomer, open_of, open_refusals, trigger_by, trigger_of as trigger_told_of, unless}
-use Rattle.iiod_session.specs.Seat.{Answers, IsNew, MayOpen, number_by as number_of}
+use Rattle.iiod_commands.specs.Seat.{Answers, IsNew, MayOpen, number_by as number_of}
 use Rattle.iio_kinds.specs.declared.any_device.AnyDevice.{AnyDevice}
 use Rattle.iio_kinds.specs.declared.any_device.AnyDevice.TheVariants as any
 use Rattle.iio_kinds.specs.declared.seat.Seat.{Seat}

@@ -5,11 +5,11 @@ use Rattle.iio_desc.specs.declared.description.TriggerDesc.{TriggerDesc}
 use Rattle.iio_sensor.specs.Driver.{Driver}
 use Rattle.iio_device.specs.declared.plug.Plug.{Plug}
 use Rattle.iio_device.specs.Site.{is_empty}
-use Rattle.iiod_session.specs.declared.iio.No.{No}
+use Rattle.iiod_commands.specs.declared.iio.No.{No}
 use Rattle.iio_core.specs.Trigger.{Trigger}
 use Rattle.iio_core.specs.Calls.{is_inner_of, remask_of, station_after_remask, with_mask}
 use Rattle.iio_core.specs.Machine.{Member, MemberId, Station, is_seat_of, queue_of}
-use Rattle.iiod_session.specs.Seat.{Answers}
+use Rattle.iiod_commands.specs.Seat.{Answers}
 use Rattle.iio_kinds.specs.Acting.{Acts}
 use Rattle.iio_kinds.specs.Remasking.{remask_answer}
 use Rattle.iio_kinds.specs.declared.any_device.AnyDevice.{AnyDevice}

@@ -17,18 +17,18 @@ use Rattle.iio_event.specs.Monitor.{after_close, after_open, after_read}
 use Rattle.iio_device.specs.Site.{sampled, site_written, with_monitor}
 use Rattle.iio_device.specs.Totals.{with_given}
 use Rattle.iio_output.specs.Written.{scans_of}
-use Rattle.iiod_session.specs.declared.iio.No.{No}
-use Rattle.iiod_session.specs.declared.iio.No.TheVariants.{Errno as NoErrno, Mem as NoMem}
-use Rattle.iiod_session.specs.declared.iio.Took.{Took}
-use Rattle.iiod_session.specs.declared.iio.Took.TheVariants.{Scan, Empty, Gone}
+use Rattle.iiod_commands.specs.declared.iio.No.{No}
+use Rattle.iiod_commands.specs.declared.iio.No.TheVariants.{Errno as NoErrno, Mem as NoMem}
+use Rattle.iiod_commands.specs.declared.iio.Took.{Took}
+use Rattle.iiod_commands.specs.declared.iio.Took.TheVariants.{Scan, Empty, Gone}
 use Rattle.iio_desc.specs.Description.{DeviceHead, no_shape}
 use Rattle.iio_desc.specs.Kind.{Input}
 use Rattle.iio_core.specs.Trigger.{Trigger}
 use Rattle.iio_core.specs.Front.{Front, device_name, kind_at, shape_at, size_at, trigger_name}
 use Rattle.iio_core.specs.Machine.{Machine, MemberId, Station, is_plugged, lost_of, no_station, queue_of, scans_in, station_at, with_queue, with_scans, with_site, with_station}
 use Rattle.iio_core.specs.Calls.{ev_close_of, ev_open_answer, ev_open_of, ev_read_answer, ev_read_of, holds_events, is_asking, read_attr_of, set_trigger_of, trigger_answer, unless, write_attr_of, write_scans_at, write_scans_of, writes}
-use Rattle.iiod_session.specs.Reading.{TakesScans}
-use Rattle.iiod_session.specs.Seat.{Answers, SeatRecord, Takes, seat_id}
+use Rattle.iiod_commands.specs.Reading.{TakesScans}
+use Rattle.iiod_commands.specs.Seat.{Answers, SeatRecord, Takes, seat_id}
 use Rattle.iio_kinds.specs.Acting.{Acts, Reads, TakesAt, TakesScansAt, Turns, lost_in}
 use Rattle.iio_system.proofs.ListLemmas.{map_at, map_changed, map_same}
 

@@ -3,13 +3,13 @@ use Rattle.std.proofs.Common.{◌≡◌, ℕ, false, List, [], ◌∷◌, ◌++�
 use Rattle.iiod_grammar.specs.Scans.{scan_on}
 use Rattle.iiod_grammar.specs.Stream.{Item, Scanned, no_item}
 use Rattle.iiod_reply.specs.Reply.{Reply}
-use Rattle.iiod_session.specs.declared.manner.Going.{Going}
-use Rattle.iiod_session.specs.declared.manner.Going.TheVariants.{On, Waits, Ended}
-use Rattle.iiod_session.specs.declared.manner.Manner.TheVariants.{Script, Server}
+use Rattle.iiod_session.specs.declared.going.Going.{Going}
+use Rattle.iiod_session.specs.declared.going.Going.TheVariants.{On, Waits, Ended}
+use Rattle.iiod_commands.specs.declared.manner.Manner.TheVariants.{Script, Server}
 use Rattle.iio_core.specs.Front.{Front}
 use Rattle.iio_core.specs.Machine.{Machine}
 use Rattle.iiod_session.specs.Run.{RunBy}
-use Rattle.iiod_session.specs.Seat.{SeatRecord}
+use Rattle.iiod_commands.specs.Seat.{SeatRecord}
 use Rattle.iiod_session.specs.Session.{SessionRecord}
 use Rattle.iiod_session.specs.Watch.{Hears, IsHeard, Scene, scene_of, waits_in}
 use Rattle.iio_system.specs.Guard.{TellsAll, Watches}

@@ -1,11 +1,11 @@
 -- A connection of a script over the told state.
 use Rattle.std.specs.Prelude.{◌≡◌, ℕ, true, List, ◌++◌, length, Option, Some}
 use Rattle.iiod_grammar.specs.Stream.{Scanner, items_from, no_item, scanner_after}
-use Rattle.iiod_session.specs.declared.manner.Manner.TheVariants.{Script}
-use Rattle.iiod_session.specs.Client.{client_of}
+use Rattle.iiod_commands.specs.declared.manner.Manner.TheVariants.{Script}
+use Rattle.iiod_commands.specs.Client.{client_of}
 use Rattle.iio_core.specs.Front.{Front}
 use Rattle.iio_core.specs.Machine.{Machine}
-use Rattle.iiod_session.specs.Seat.{SeatRecord}
+use Rattle.iiod_commands.specs.Seat.{SeatRecord}
 use Rattle.iiod_session.specs.Session.{SessionRecord}
 use Rattle.iio_history.specs.Registry.{Setup}
 use Rattle.iio_history.specs.Told.{Told}

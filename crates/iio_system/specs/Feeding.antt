@@ -3,11 +3,11 @@ use Rattle.std.specs.Prelude.{◌≡◌, ℕ, ◌<◌, All, Bool, true, false, L
 use Rattle.std.specs.Str.{bytes_eq}
 use Rattle.iio_text.specs.Escape.{quoted}
 use Rattle.iiod_grammar.specs.Stream.{AtEnd, Scanner, items_from, scanner_after}
-use Rattle.iiod_session.specs.Acts.{left_machine}
-use Rattle.iiod_session.specs.Client.{IsClient, client_of}
+use Rattle.iiod_commands.specs.Acts.{left_machine}
+use Rattle.iiod_commands.specs.Client.{IsClient, client_of}
 use Rattle.iio_core.specs.Front.{Front}
 use Rattle.iio_core.specs.Machine.{Machine}
-use Rattle.iiod_session.specs.Seat.{SeatRecord}
+use Rattle.iiod_commands.specs.Seat.{SeatRecord}
 use Rattle.iiod_session.specs.Session.{SessionRecord}
 use Rattle.iio_history.specs.Registry.{Setup}
 use Rattle.iio_history.specs.Told.{Told}

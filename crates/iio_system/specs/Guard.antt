@@ -8,10 +8,10 @@ use Rattle.iiod_grammar.specs.declared.lines.TheConstants.{MAX_PAYLOAD}
 use Rattle.iiod_grammar.specs.Command.{Command, Exit, Write, WriteBuf}
 use Rattle.iiod_grammar.specs.Stream.{Item, Said, Written, Streamed, End, Scanner, items_from}
 use Rattle.iio_desc.specs.Kind.{is_input}
-use Rattle.iiod_session.specs.Client.{ClientRecord, client_of}
+use Rattle.iiod_commands.specs.Client.{ClientRecord, client_of}
 use Rattle.iio_core.specs.Front.{Front, kind_at}
 use Rattle.iio_core.specs.Machine.{Machine}
-use Rattle.iiod_session.specs.Seat.{SeatRecord}
+use Rattle.iiod_commands.specs.Seat.{SeatRecord}
 use Rattle.iiod_session.specs.Session.{SessionRecord}
 use Rattle.iio_history.specs.Registry.{Setup}
 use Rattle.iio_history.specs.Told.{Told}

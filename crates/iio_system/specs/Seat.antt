@@ -1,6 +1,6 @@
 -- A seat at a bench as an `Iio` tells it: it has no trace.
 use Rattle.std.specs.Prelude.{None}
-use Rattle.iiod_session.specs.Seat.{SeatRecord}
+use Rattle.iiod_commands.specs.Seat.{SeatRecord}
 use Rattle.iio_kinds.specs.declared.seat.Seat.{Seat}
 
 abbrev pub seen_of : Seat → SeatRecord

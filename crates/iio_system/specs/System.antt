@@ -1,10 +1,10 @@
 -- The core by the told state: its devices by numbers, its connections line by line.
 use Rattle.std.specs.Prelude.{◌≡◌, ◌≢◌, true, false, List, [], ◌∷◌, Option, Some, None}
 use Rattle.iiod_grammar.specs.Stream.{AtEnd}
-use Rattle.iiod_session.specs.Client.{ClientRecord, IsClient}
+use Rattle.iiod_commands.specs.Client.{ClientRecord, IsClient}
 use Rattle.iio_core.specs.Front.{Front}
 use Rattle.iio_core.specs.Machine.{Machine}
-use Rattle.iiod_session.specs.Seat.{SeatRecord}
+use Rattle.iiod_commands.specs.Seat.{SeatRecord}
 use Rattle.iiod_session.specs.Session.{SessionRecord}
 use Rattle.iio_history.specs.Registry.{Setup}
 use Rattle.iio_history.specs.Told.{Line, Told}

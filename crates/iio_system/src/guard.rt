@@ -5,7 +5,7 @@ ghost use Rattle.std.specs.Str.{bytes_eq};
 ghost use Rattle.iio_desc.specs.Kind.{is_input};
 ghost use Rattle.iiod_grammar.specs.Stream.{Item, Said};
 ghost use Rattle.iiod_grammar.specs.View.{command_view};
-ghost use Rattle.iiod_session.specs.Client.{ClientRecord};
+ghost use Rattle.iiod_commands.specs.Client.{ClientRecord};
 ghost use Rattle.iio_core.specs.Front.{find_device, kind_at};
 ghost use Rattle.iiod_session.specs.Watch.{IsSeen};
 ghost use Rattle.iio_worlds.specs.Bystanders.{may_say};

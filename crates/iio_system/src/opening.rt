@@ -11,7 +11,7 @@ ghost use Rattle.iio_layout.specs.Shape.{count_of};
 ghost use Rattle.iio_core.specs.Calls.{machine_after_close, open_of};
 ghost use Rattle.iio_core.specs.Front.{kind_at, shape_at};
 ghost use Rattle.iio_core.specs.Machine.{station_at};
-ghost use Rattle.iiod_session.specs.Seat.{Answers, IsNew, MayOpen, number_by};
+ghost use Rattle.iiod_commands.specs.Seat.{Answers, IsNew, MayOpen, number_by};
 ghost use Rattle.iio_system.specs.Bench.{front_of, kept_of, machine_of};
 ghost use Rattle.iio_kinds.specs.Faults.{HostsAny, IsServedAlone};
 ghost use Rattle.iio_system.specs.Seat.{seen_of};

@@ -11,7 +11,7 @@ use Rattle.iio_desc.specs.Description as desc_spec
 use Rattle.iio_device.specs.Site.{is_empty}
 use Rattle.iiod_grammar.specs.Command.{Close, Remask}
 use Rattle.iiod_grammar.specs.Stream.{Item, Said, End, items_from}
-use Rattle.iiod_session.specs.Client.{SeatState, ClientRecord}
+use Rattle.iiod_commands.specs.Client.{SeatState, ClientRecord}
 use Rattle.iio_core.specs.Front.{find_device, kind_at}
 use Rattle.iio_history.specs.Who.{Who, Conn, Inner, same}
 use Rattle.iio_history.specs.Registry.{Setup, Member, Device, is_member, has_ended}

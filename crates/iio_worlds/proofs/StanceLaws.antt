@@ -8,7 +8,7 @@ use Rattle.iio_trigger.specs.Trigger.{Handed}
 use Rattle.iio_desc.specs.Description.{find_device}
 use Rattle.iiod_grammar.specs.Command.{Open, Close, Read, ReadBuf, GetTrig, SetBuffers, Remask}
 use Rattle.iiod_grammar.specs.Stream.{Item, Said, End, items_from}
-use Rattle.iiod_session.specs.Client.{ClientRecord}
+use Rattle.iiod_commands.specs.Client.{ClientRecord}
 use Rattle.iio_history.specs.Who.{Who, Conn, Inner, same}
 use Rattle.iio_history.specs.Event.{Event, Arrived, Heard, Dropped, Polled, Handled, Sensed, Clock, Unplugged}
 use Rattle.iio_history.specs.Registry.{Setup, Member, Device, Registry, is_at, is_member, has_ended}

@@ -5,7 +5,7 @@ use Rattle.iiod_grammar.specs.Command.{Close, Remask}
 use Rattle.iiod_grammar.specs.Stream.{Item, Said, End, items_from}
 use Rattle.iio_desc.specs.Description.{Description, find_device}
 use Rattle.iio_desc.specs.Kind.{is_input}
-use Rattle.iiod_session.specs.Client.{ClientRecord}
+use Rattle.iiod_commands.specs.Client.{ClientRecord}
 use Rattle.iio_core.specs.Front.{Front}
 use Rattle.iio_core.specs.Front as front_spec
 use Rattle.iio_device.specs.Site.{is_empty}

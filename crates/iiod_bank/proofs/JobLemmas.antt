@@ -11,8 +11,8 @@ use Rattle.iio_device.specs.declared.roster.JoinFault.{JoinFault}
 use Rattle.iio_device.specs.declared.roster.JoinFault.TheVariants as fault
 use Rattle.iio_device.specs.Device.{DeviceView, LeavesDevice, after_trigger, is_idle, join_faults}
 use Rattle.iio_device.specs.Site.{Site, sampled}
-use Rattle.iiod_session.specs.declared.iio.No.{No}
-use Rattle.iiod_session.specs.No.{no_of}
+use Rattle.iiod_commands.specs.declared.iio.No.{No}
+use Rattle.iiod_commands.specs.No.{no_of}
 use Rattle.iio_kfifo.specs.Ends.{WriterEnd}
 use Rattle.iiod_bank.specs.Jobs.{OpenMakes, ReadMakes, after_value}
 use Rattle.iiod_bank.specs.Lent.{Kept}

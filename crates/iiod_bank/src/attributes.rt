@@ -15,7 +15,7 @@ use iio_kfifo::{Tail, Writer};
 use iio_layout::Shape;
 use iio_sensor::Sensor;
 use iio_text::Errno;
-use iiod_session::{No, raw_no};
+use iiod_commands::{No, raw_no};
 
 // Whether a channel, if one is given, is one of the shape's.
 fn has_channel(shape: &Shape, channel: Option<u32>) -> bool

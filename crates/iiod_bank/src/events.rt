@@ -13,7 +13,7 @@ use iio_layout::Shape;
 use iio_sensor::Sensor;
 use iio_text::Errno;
 use iio_trigger::Due;
-use iiod_session::{No, held_no, holder_no};
+use iiod_commands::{No, held_no, holder_no};
 
 /// The job of a connection's EVOPEN.
 #[derive(Drop)]

@@ -14,7 +14,7 @@ use iio_mask::Mask;
 use iio_sensor::Sensor;
 use iio_text::Errno;
 use iio_trigger::Trigger;
-use iiod_session::{No, no_of};
+use iiod_commands::{No, no_of};
 use std::alloc::Global;
 
 /// A member, and the end of its ring from which scans are taken.

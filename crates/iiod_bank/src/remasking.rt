@@ -12,7 +12,7 @@ use iio_kfifo::{Reader, Tail, Writer, ring};
 use iio_layout::Shape;
 use iio_mask::Mask;
 use iio_sensor::Sensor;
-use iiod_session::{No, remask_no};
+use iiod_commands::{No, remask_no};
 use std::alloc::Global;
 
 /// The result of a REMASK's job: the writing end of the member's old ring, and the reading end of its new one.

@@ -6,12 +6,12 @@ use Rattle.std.proofs.lemmas.List.Quantifiers.{position-Some}
 use Rattle.iiod_grammar.specs.Command.{ReadBuf}
 use Rattle.iiod_grammar.specs.Scans.{scan_on}
 use Rattle.iiod_grammar.specs.Stream.{Item, Said}
-use Rattle.iiod_session.specs.declared.manner.Going.{Going}
-use Rattle.iiod_session.specs.declared.manner.Going.TheVariants.{On, Waits}
-use Rattle.iiod_session.specs.declared.manner.Going.TheVariants as going
-use Rattle.iiod_session.specs.declared.manner.Manner.{Manner}
-use Rattle.iiod_session.specs.declared.manner.Manner.TheVariants.{Server}
-use Rattle.iiod_session.specs.Performs.{IsReadOf}
+use Rattle.iiod_session.specs.declared.going.Going.{Going}
+use Rattle.iiod_session.specs.declared.going.Going.TheVariants.{On, Waits}
+use Rattle.iiod_session.specs.declared.going.Going.TheVariants as going
+use Rattle.iiod_commands.specs.declared.manner.Manner.{Manner}
+use Rattle.iiod_commands.specs.declared.manner.Manner.TheVariants.{Server}
+use Rattle.iiod_commands.specs.Performs.{IsReadOf}
 use Rattle.iiod_session.specs.Run.{Feeds}
 use Rattle.iio_desc.specs.Description.{no_shape}
 use Rattle.iio_desc.specs.Kind.{Input}

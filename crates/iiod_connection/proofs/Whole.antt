@@ -6,18 +6,18 @@ use Rattle.std.proofs.lemmas.Grind.{flat_map-append}
 use Rattle.iiod_grammar.specs.Scans.{scan_on}
 use Rattle.iiod_grammar.specs.Stream.{Item, ItemsCutAnywhere, ScannerCutAnywhere, Scanned, items_from, scanner_after}
 use Rattle.iiod_reply.specs.Reply.{text_of}
-use Rattle.iiod_session.specs.declared.manner.Going.{Going}
-use Rattle.iiod_session.specs.declared.manner.Going.TheVariants.{On, Waits}
-use Rattle.iiod_session.specs.declared.manner.Going.TheVariants as going
-use Rattle.iiod_session.specs.declared.manner.Manner.TheVariants.{Server}
+use Rattle.iiod_session.specs.declared.going.Going.{Going}
+use Rattle.iiod_session.specs.declared.going.Going.TheVariants.{On, Waits}
+use Rattle.iiod_session.specs.declared.going.Going.TheVariants as going
+use Rattle.iiod_commands.specs.declared.manner.Manner.TheVariants.{Server}
 use Rattle.iio_core.specs.Front.{Front}
-use Rattle.iiod_session.specs.Acts.{left_machine}
-use Rattle.iiod_session.specs.declared.client.BuffersCount.{BuffersCount}
-use Rattle.iiod_session.specs.declared.client.OpenSeat.{OpenSeat}
-use Rattle.iiod_session.specs.Client.{seats_of, traces_of}
+use Rattle.iiod_commands.specs.Acts.{left_machine}
+use Rattle.iiod_commands.specs.declared.client.BuffersCount.{BuffersCount}
+use Rattle.iiod_commands.specs.declared.client.OpenSeat.{OpenSeat}
+use Rattle.iiod_commands.specs.Client.{seats_of, traces_of}
 use Rattle.iio_core.specs.Machine.{Machine}
 use Rattle.iiod_session.specs.Run.{Stands, State}
-use Rattle.iiod_session.specs.Seat.{SeatRecord}
+use Rattle.iiod_commands.specs.Seat.{SeatRecord}
 use Rattle.iiod_session.specs.Session.{IsFresh, SessionRecord}
 use Rattle.iiod_connection.specs.Answers.{Answers, FindsNothing}
 use Rattle.iiod_connection.specs.Place.{Place, first_place, place_of}

@@ -6,10 +6,10 @@ use Rattle.iio_text.specs.declared.errors.Errno.TheVariants.{EAGAIN}
 use Rattle.iiod_grammar.specs.Scans.{scan_on}
 use Rattle.iiod_grammar.specs.Stream.{Item}
 use Rattle.iiod_reply.specs.Reply.{Reply, Refusal, text_of}
-use Rattle.iiod_session.specs.declared.manner.Manner.TheVariants.{Server}
+use Rattle.iiod_commands.specs.declared.manner.Manner.TheVariants.{Server}
 use Rattle.iio_core.specs.Front.{Front}
-use Rattle.iiod_session.specs.Moves.{Serves}
-use Rattle.iiod_session.specs.Performs.{IsReadOf}
+use Rattle.iiod_commands.specs.Moves.{Serves}
+use Rattle.iiod_commands.specs.Performs.{IsReadOf}
 use Rattle.iiod_session.specs.Run.{Run, State}
 use Rattle.iiod_connection.specs.Place.{Place}
 

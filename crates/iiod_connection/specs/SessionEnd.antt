@@ -2,7 +2,7 @@
 use Rattle.std.specs.Prelude.{◌≡◌, ℕ, ◌++◌, List, [], Option, Some, IfSome}
 use Rattle.iio_base.specs.Faults.{Rose}
 use Rattle.iiod_grammar.specs.Stream.{AtEnd, no_item}
-use Rattle.iiod_session.specs.Acts.{left_machine}
+use Rattle.iiod_commands.specs.Acts.{left_machine}
 use Rattle.iio_core.specs.Front.{Front}
 use Rattle.iio_core.specs.Machine.{Machine}
 use Rattle.iiod_connection.specs.declared.session_end.SessionEnd.{SessionEnd}

@@ -2,10 +2,10 @@
 use Rattle.std.specs.Prelude.{◌≡◌, ℕ, zero, suc, ◌<◌, ◌++◌, List, [], length, Option, Some, IfSome, Result, Ok, Err, ⊤}
 use Rattle.iiod_grammar.specs.Scans.{scan_on}
 use Rattle.iiod_grammar.specs.Stream.{AtEnd, no_item}
-use Rattle.iiod_session.specs.declared.manner.Going.{Going}
-use Rattle.iiod_session.specs.declared.manner.Going.TheVariants.{On, Waits}
-use Rattle.iiod_session.specs.declared.manner.Going.TheVariants as going
-use Rattle.iiod_session.specs.declared.manner.Manner.TheVariants.{Server}
+use Rattle.iiod_session.specs.declared.going.Going.{Going}
+use Rattle.iiod_session.specs.declared.going.Going.TheVariants.{On, Waits}
+use Rattle.iiod_session.specs.declared.going.Going.TheVariants as going
+use Rattle.iiod_commands.specs.declared.manner.Manner.TheVariants.{Server}
 use Rattle.iio_core.specs.Front.{Front}
 use Rattle.iiod_session.specs.Run.{Feeds}
 use Rattle.iiod_connection.specs.declared.session_end.SessionEnd.{SessionEnd}

@@ -1,9 +1,9 @@
 //! Serves a connection over a link.
 
 ghost use Rattle.std.specs.Prelude.{◌≡◌, ◌<◌, ◌≤◌, ◌+◌, ◌++◌, drop, [], length, Some, IfSome, IfOk, OnOk};
-ghost use Rattle.iiod_session.specs.Client.{IsClient};
+ghost use Rattle.iiod_commands.specs.Client.{IsClient};
 ghost use Rattle.iiod_session.specs.Run.{state_of};
-ghost use Rattle.iiod_session.specs.declared.manner.Manner.TheVariants.{Server};
+ghost use Rattle.iiod_commands.specs.declared.manner.Manner.TheVariants.{Server};
 ghost use Rattle.iiod_connection.specs.Parts.{PartsAreShort, part_length};
 ghost use Rattle.iiod_connection.specs.Place.{Place, place_of};
 ghost use Rattle.iiod_connection.specs.SessionEnd.{EndFaults, Ends, IsServed};

@@ -2,7 +2,7 @@
 use Rattle.std.proofs.Common.{◌≡◌, ℕ, Option, Some, None, Result, subst}
 use Rattle.iio_mask.specs.declared.Mask.{Mask}
 use Rattle.iio_core.specs.Front.{Front, size_at}
-use Rattle.iiod_session.specs.declared.iio.No.{No}
+use Rattle.iiod_commands.specs.declared.iio.No.{No}
 use Rattle.iio_kfifo.specs.Ends.{WriterEnd}
 use Rattle.iiod_bank.specs.declared.opening.Opened.{Opened}
 use Rattle.iiod_hub.specs.declared.seat.HubSeat.{HubSeat}

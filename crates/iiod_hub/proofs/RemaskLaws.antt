@@ -3,7 +3,7 @@ use Rattle.std.proofs.Common.{◌≡◌, ℕ, Option, Some, None, Result, subst}
 use Rattle.iio_kfifo.specs.Ends.{WriterEnd}
 use Rattle.iio_mask.specs.declared.Mask.{Mask}
 use Rattle.iio_core.specs.Front.{Front, size_at}
-use Rattle.iiod_session.specs.declared.iio.No.{No}
+use Rattle.iiod_commands.specs.declared.iio.No.{No}
 use Rattle.iiod_bank.specs.declared.remasking.Remasked.{Remasked}
 use Rattle.iiod_bank.specs.Jobs.{RemaskMakes}
 use Rattle.iiod_bank.specs.Told.{Moves, Only, Ran, Told}

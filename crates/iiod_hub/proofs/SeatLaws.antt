@@ -3,8 +3,8 @@ use Rattle.std.proofs.Common.{◌≡◌, ◌≢◌, ℕ, suc, ◌<◌, ◌≤◌
 use Rattle.std.specs.Prelude.{MatchBool}
 use Rattle.std.specs.List.{flat_map}
 use Rattle.iiod_reply.specs.Reply.{joined_scans}
-use Rattle.iiod_session.specs.Reading.{ReadSome}
-use Rattle.iiod_session.specs.Seat.{SeatRecord, Trace, after_nothing, after_scans}
+use Rattle.iiod_commands.specs.Reading.{ReadSome}
+use Rattle.iiod_commands.specs.Seat.{SeatRecord, Trace, after_nothing, after_scans}
 use Rattle.iio_kfifo.specs.declared.view.Reading.{Reading}
 use Rattle.iio_kfifo.specs.declared.view.Sent.{Sent}
 use Rattle.iio_kfifo.specs.Ends.{AsksClosed, AsksOpen, ReaderEnd, TakesScans}

@@ -7,9 +7,9 @@ use Rattle.iio_trigger.specs.declared.Polled.{Polled}
 use Rattle.iio_device.specs.declared.handling.Handled.{Handled}
 use Rattle.iio_device.specs.Device.{DeviceView, Handles}
 use Rattle.iio_core.specs.Front.{Front, size_at}
-use Rattle.iiod_session.specs.declared.iio.No.{No}
-use Rattle.iiod_session.specs.declared.iio.No.TheVariants.{Errno as NoErrno, Mem as NoMem}
-use Rattle.iiod_session.specs.Seat.{SeatRecord}
+use Rattle.iiod_commands.specs.declared.iio.No.{No}
+use Rattle.iiod_commands.specs.declared.iio.No.TheVariants.{Errno as NoErrno, Mem as NoMem}
+use Rattle.iiod_commands.specs.Seat.{SeatRecord}
 use Rattle.iio_kfifo.specs.Ends.{WriterEnd}
 use Rattle.iiod_bank.specs.declared.opening.Opened.{Opened}
 use Rattle.iiod_hub.specs.declared.seat.HubSeat.{HubSeat}

@@ -4,8 +4,8 @@ use Rattle.iio_mask.specs.declared.Mask.{Mask}
 use Rattle.iio_kfifo.specs.Ends.{WriterEnd}
 use Rattle.iio_device.specs.Device.{DeviceView}
 use Rattle.iio_core.specs.Front.{Front, size_at}
-use Rattle.iiod_session.specs.declared.iio.No.{No}
-use Rattle.iiod_session.specs.declared.iio.No.TheVariants.{Errno as NoErrno, Mem as NoMem}
+use Rattle.iiod_commands.specs.declared.iio.No.{No}
+use Rattle.iiod_commands.specs.declared.iio.No.TheVariants.{Errno as NoErrno, Mem as NoMem}
 use Rattle.iiod_bank.specs.declared.remasking.Remasked.{Remasked}
 use Rattle.iiod_bank.specs.Jobs.{RemaskMakes, remask_refusal}
 use Rattle.iiod_bank.specs.Told.{Only, Ran, Told}

@@ -3,7 +3,7 @@
 ghost use Rattle.std.specs.Prelude.{◌≡◌, ◌+◌, ◌*◌, ◌≤◌, ◌<◌, Some, drop, length, vec_capacity, IfOk, IfSome};
 ghost use Rattle.iio_desc.specs.WellFormed.{IsWellFormed};
 ghost use Rattle.iio_desc.specs.declared.limits.TheConstants.{MAX_TRIGGERS};
-ghost use Rattle.iiod_session.specs.Seat.{IsNew, IsOfDevice, MayOpen, Remasks};
+ghost use Rattle.iiod_commands.specs.Seat.{IsNew, IsOfDevice, MayOpen, Remasks};
 ghost use Rattle.iiod_bank.specs.FrontOf.{front_of, served_front};
 ghost use Rattle.iiod_hub.specs.Link.{HasMoment, KeepsSeat, RefusedBySome, seen_of};
 ghost use Rattle.iiod_hub.specs.Reads.{HubReads};
@@ -25,7 +25,7 @@ use iio_mask::Mask;
 use iio_sensor::Sensor;
 use iio_trigger::{Polled, Trigger};
 use iiod_bank::{Bank, Parts, parts_of};
-use iiod_session::{Bells, Iio, No};
+use iiod_commands::{Bells, Iio, No};
 use std::alloc::Global;
 use std::sync::atomic::{AtomicI64, Ordering};
 use std::sync::{Mutex, Wait};

@@ -6,9 +6,9 @@ ghost use Rattle.iio_kfifo.specs.Ends.{Ends, WriterEnd};
 ghost use Rattle.iio_desc.specs.declared.limits.TheConstants.{MAX_TRIGGERS};
 ghost use Rattle.iio_trigger.specs.Trigger.{Polls};
 ghost use Rattle.iio_core.specs.Front.{find_device, find_trigger, shape_at, size_at, trigger_name};
-ghost use Rattle.iiod_session.specs.Reading.{TakesScans};
-ghost use Rattle.iiod_session.specs.Seat.{IsNew, IsOfDevice, MayOpen, Remasks, after_take};
-ghost use Rattle.iiod_session.specs.Target.{MayRead, MayWrite};
+ghost use Rattle.iiod_commands.specs.Reading.{TakesScans};
+ghost use Rattle.iiod_commands.specs.Seat.{IsNew, IsOfDevice, MayOpen, Remasks, after_take};
+ghost use Rattle.iiod_commands.specs.Target.{MayRead, MayWrite};
 ghost use Rattle.iiod_bank.specs.Jobs.{EvCloseMakes, EvOpenMakes, EvReadMakes, LeaveMakes, LostMakes, ReadMakes, SetTriggerMakes, UnplugMakes, WriteMakes};
 ghost use Rattle.iiod_hub.specs.Link.{BankHandles, BankOpens, RefusedBySome, Swept, seen_of};
 ghost use Rattle.iiod_hub.specs.Remasking.{BankRemasks, RemaskRefusedBySome};
@@ -29,7 +29,7 @@ use iiod_bank::{
     HubFront, LeaveJob, LostWork, OpenJob, Opened, PollJob, ReadWork, RemaskWork, Remasked,
     TriggerJob, TriggerWork, UnplugJob, Work, WriteWork,
 };
-use iiod_session::{Counts, Iio, No, Took};
+use iiod_commands::{Counts, Iio, No, Took};
 use std::alloc::Global;
 
 /// A hub as one connection uses it.

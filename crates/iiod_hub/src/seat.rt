@@ -2,10 +2,10 @@
 
 ghost use Rattle.std.specs.Prelude.{◌≡◌, ◌+◌, ◌-◌, ◌*◌, ◌^◌, ◌≤◌, ◌<◌, min, ◌++◌, ◌∷◌, [], true, false, length, option_map, vec_capacity, None, if◌then◌else◌};
 ghost use Rattle.iiod_reply.specs.Reply.{joined_scans};
-ghost use Rattle.iiod_session.specs.Reading.{TakesScans};
-ghost use Rattle.iiod_session.specs.Seat.{after_nothing, after_take};
-ghost use Rattle.iiod_session.specs.declared.iio.Took.{Took};
-ghost use Rattle.iiod_session.specs.declared.iio.Took.TheVariants.{Empty, Gone};
+ghost use Rattle.iiod_commands.specs.Reading.{TakesScans};
+ghost use Rattle.iiod_commands.specs.Seat.{after_nothing, after_take};
+ghost use Rattle.iiod_commands.specs.declared.iio.Took.{Took};
+ghost use Rattle.iiod_commands.specs.declared.iio.Took.TheVariants.{Empty, Gone};
 ghost use Rattle.iiod_hub.specs.Link.{KeepsSeat, seen_of};
 ghost use Rattle.iiod_hub.specs.Reads.{HubReads};
 ghost use Rattle.iiod_bank.specs.Received.{SawClosed, SawOpen, received_of, size_of};
@@ -13,7 +13,7 @@ ghost use Rattle.iiod_bank.specs.Received.{SawClosed, SawOpen, received_of, size
 use iio_device::Member;
 use iio_kfifo::{Ended, Reader};
 use iio_mask::Mask;
-use iiod_session::Took;
+use iiod_commands::Took;
 use std::mem::replace;
 
 /// The reason why a read returns no scan.

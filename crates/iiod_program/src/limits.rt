@@ -9,7 +9,7 @@ ghost use Rattle.iio_trigger.specs.declared.limits.TheConstants.{MAX_PLACES};
 ghost use Rattle.iio_desc.specs.declared.limits.TheConstants.{MAX_DEVICES, MAX_MASKS, MAX_ROWS, MAX_TRIGGERS};
 ghost use Rattle.iio_event.specs.declared.monitor.TheConstants.{MAX_EVENTS};
 ghost use Rattle.iiod_grammar.specs.declared.lines.TheConstants.{MAX_LINE, MAX_PAYLOAD};
-ghost use Rattle.iiod_session.specs.declared.client.TheConstants.{FIRST_BUFFERS, MAX_BUFFERS};
+ghost use Rattle.iiod_commands.specs.declared.client.TheConstants.{FIRST_BUFFERS, MAX_BUFFERS};
 ghost use Rattle.iio_core.specs.declared.limits.TheConstants.{MAX_SCANS};
 ghost use Rattle.iio_history.specs.declared.limits.TheConstants.{MAX_INPUT_BYTES, MAX_NAMES};
 ghost use Rattle.iio_script.specs.declared.line_reader.TheConstants.{MAX_PIECE_BYTES};

@@ -5,14 +5,14 @@ use Rattle.std.proofs.lemmas.Grind.{flat_map-append}
 use Rattle.iiod_grammar.specs.Scans.{scan_on}
 use Rattle.iiod_grammar.specs.Stream.{Item, Scanned, AtEnd, items_from, scanner_after}
 use Rattle.iiod_reply.specs.Reply.{Reply, text_of}
-use Rattle.iiod_session.specs.declared.manner.Going.{Going}
-use Rattle.iiod_session.specs.declared.manner.Going.TheVariants.{On, Waits, Ended}
-use Rattle.iiod_session.specs.declared.manner.Manner.{Manner}
+use Rattle.iiod_session.specs.declared.going.Going.{Going}
+use Rattle.iiod_session.specs.declared.going.Going.TheVariants.{On, Waits, Ended}
+use Rattle.iiod_commands.specs.declared.manner.Manner.{Manner}
 use Rattle.iio_text.specs.declared.errors.Errno.TheVariants.{EAGAIN}
-use Rattle.iiod_session.specs.Client.{SeatState}
+use Rattle.iiod_commands.specs.Client.{SeatState}
 use Rattle.iio_core.specs.Front.{Front}
 use Rattle.iiod_session.specs.Given.{GivenIs}
-use Rattle.iiod_session.specs.Seat.{Trace}
+use Rattle.iiod_commands.specs.Seat.{Trace}
 use Rattle.iiod_session.specs.Run.{State, Carries, CarriesBy, FedBy, Feeds, RunBy, Stands, StandsBy}
 use Rattle.iiod_session.proofs.GivenLaws.{AreSeated, gives, run_gives, waiting_gives}
 use Rattle.iiod_session.proofs.StreamLaws.{scan_end}

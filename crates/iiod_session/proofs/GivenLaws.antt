@@ -1,9 +1,8 @@
 -- The scans that the seats gave are those that were answered.
-use Rattle.std.proofs.Common.{◌≡◌, ℕ, suc, zero, ◌+◌, ◌<◌, ◌==◌, ◌||◌, nat_lt, Bool, true, false, List, [], ◌∷◌, ◌++◌, length, length-append, refl, sym, ap, ◌∙◌, Option, Some, None, option_map, inl, inr, Ok, arith, ℤ}
-use Rattle.std.proofs.lemmas.Bool.{eqb-true, lt-ltb, ltb-true}
-use Rattle.std.proofs.lemmas.Bool.Decides.{nat_tests}
+use Rattle.std.proofs.Common.{◌≡◌, ℕ, suc, zero, ◌+◌, ◌==◌, nat_lt, Bool, true, false, List, [], ◌∷◌, ◌++◌, length, length-append, refl, sym, ap, ◌∙◌, Option, Some, None, option_map, inl, inr, Ok, arith, ℤ}
+use Rattle.std.proofs.lemmas.Bool.{eqb-true}
+use Rattle.std.proofs.lemmas.List.{length-map}
 use Rattle.std.specs.Prelude.{◌⊎◌, MatchBool, if◌then◌else◌, remove, slice_get, slice_set}
-use Rattle.std.specs.List.{position_or_len}
 use Rattle.std.proofs.Math.ListN.{length-set}
 use Rattle.iio_text.specs.declared.errors.Errno.{Errno}
 use Rattle.iio_text.specs.declared.errors.Errno.TheVariants.{EAGAIN, EBADF, ENODEV, ENOSYS}
@@ -11,94 +10,32 @@ use Rattle.iio_desc.specs.Kind.{is_output}
 use Rattle.iiod_grammar.specs.Command.{Open, Close, ReadBuf, Remask, SetBuffers, EvOpen, EvClose}
 use Rattle.iiod_grammar.specs.Stream.{Item, Said, End}
 use Rattle.iiod_reply.specs.Reply.{Reply, Number, Refusal, Block, NoMemory}
-use Rattle.iiod_session.specs.declared.manner.Manner.{Manner}
-use Rattle.iiod_session.specs.Acts.{zero_reply}
-use Rattle.iiod_session.specs.Client.{SeatState, ClientRecord, are_apart, seat_state_remasked, has_seat, place_of}
+use Rattle.iiod_commands.specs.declared.client.Client.{Client}
+use Rattle.iiod_commands.specs.declared.manner.Manner.{Manner}
+use Rattle.iiod_commands.specs.Acts.{zero_reply}
+use Rattle.iiod_commands.specs.Client.{SeatState, ClientRecord, IsClient, seat_state_of, seat_state_remasked, seats_of, trace_of, traces_of, has_seat, place_of}
 use Rattle.iio_core.specs.Front.{Front, find_device, kind_at, size_at}
 use Rattle.iiod_session.specs.Given.{GivenIs, given_after, given_by, given_in, is_named, trace_at}
-use Rattle.iiod_session.specs.Moves.{Moves, ReadMoves, ReadsAs, ReadsAt, ReadsBy, ReadsFrom}
-use Rattle.iiod_session.specs.Reading.{Reads}
+use Rattle.iiod_commands.specs.Moves.{Moves, ReadMoves, ReadsAs, ReadsAt, ReadsBy, ReadsFrom}
+use Rattle.iiod_commands.specs.Reading.{Reads}
 use Rattle.iiod_session.specs.Run.{State, Run}
-use Rattle.iiod_session.specs.Seat.{Trace, after_nothing, after_scans, first_trace}
+use Rattle.iiod_commands.specs.Seat.{SeatRecord, Trace, after_nothing, after_scans, first_trace}
+use Rattle.iiod_commands.proofs.ApartLaws.{AreApart, IsFirst, apart_by, apart_kept, apart_last, apart_under, none_has, place_first}
 
--- no two seats are at one device
-abbrev pub AreApart : List SeatState → Type 0
-AreApart [] = Unit {0}
-AreApart (s ∷ ss) = (has_seat s.dev ss ≡ false) × AreApart ss
-
-pub apart_by : (seats : List SeatState) → are_apart seats ≡ true → AreApart seats
-apart_by [] e = tt
-apart_by (s ∷ ss) e = by (has_seat s.dev ss) refl (λ rest. apart_by ss rest)
-  where
-    by : (b : Bool) → has_seat s.dev ss ≡ b → (are_apart ss ≡ true → AreApart ss) → AreApart (s ∷ ss)
-    by true h more = let n : false ≡ true = rw h at e in cc
-    by false h more = (h, more (rw h at e))
-
-pub are_apart_by : (seats : List SeatState) → AreApart seats → are_apart seats ≡ true
-are_apart_by [] a = refl
-are_apart_by (s ∷ ss) a = rw a.0 (are_apart_by ss a.1)
-
--- ... and each has its trace
+-- no two seats are at one device, and each has its trace
 pub record AreSeated (seats : List SeatState) (traces : List (Option Trace)) : Type 0 where
   pub apart : AreApart seats
   pub told : length traces ≡ length seats
 
--- ---- the first seat at a device
-
--- it has index i
-abbrev IsFirst : ℕ → List SeatState → ℕ → Type 0
-IsFirst dev [] i = ⊥
-IsFirst dev (s ∷ ss) zero = (s.dev == dev) ≡ true
-IsFirst dev (s ∷ ss) (suc i) = ((s.dev == dev) ≡ false) × IsFirst dev ss i
-
-has_lt : (dev : ℕ) (seats : List SeatState) → has_seat dev seats ≡ true → position_or_len (λ (s : SeatState). s.dev == dev) seats < length seats
-has_lt dev [] h = cc
-has_lt dev (s ∷ ss) h = by (λ more. has_lt dev ss more) (s.dev == dev) refl
-  where
-    by : (has_seat dev ss ≡ true → position_or_len (λ (x : SeatState). x.dev == dev) ss < length ss) → (b : Bool) → (s.dev == dev) ≡ b
-        → position_or_len (λ (x : SeatState). x.dev == dev) (s ∷ ss) < length (s ∷ ss)
-    by rest true e = rw e (omega arith)
-    by rest false e = let n : position_or_len (λ (x : SeatState). x.dev == dev) ss < length ss = rest (rw e at h) in rw e (omega arith)
-
-pub none_has : (dev : ℕ) (seats : List SeatState) → place_of dev seats ≡ None → has_seat dev seats ≡ false
-none_has dev seats e = by (has_seat dev seats) refl
-  where
-    by : (b : Bool) → has_seat dev seats ≡ b → has_seat dev seats ≡ false
-    by false h = h
-    by true h =
-        let less : nat_lt (position_or_len (λ (s : SeatState). s.dev == dev) seats) (length seats) ≡ true = lt-ltb _ _ (has_lt dev seats h) in
-        let n : Some (position_or_len (λ (s : SeatState). s.dev == dev) seats) ≡ None = rw less at e in cc
-
-first_from : (dev : ℕ) (seats : List SeatState) (i : ℕ) → i < length seats → position_or_len (λ (s : SeatState). s.dev == dev) seats ≡ i → IsFirst dev seats i
-first_from dev [] i l e = absurd (omega arith)
-first_from dev (s ∷ ss) i l e = by (λ j below at. first_from dev ss j below at) (s.dev == dev) refl i l e
-  where
-    by : ((j : ℕ) → j < length ss → position_or_len (λ (x : SeatState). x.dev == dev) ss ≡ j → IsFirst dev ss j) → (b : Bool) → (s.dev == dev) ≡ b → (i : ℕ)
-        → i < length (s ∷ ss) → position_or_len (λ (x : SeatState). x.dev == dev) (s ∷ ss) ≡ i → IsFirst dev (s ∷ ss) i
-    by rest true t zero l e = t
-    by rest true t (suc i) l e = let n : 0 ≡ suc i = rw t at e in absurd (omega arith)
-    by rest false t zero l e = let n : 1 + position_or_len (λ (x : SeatState). x.dev == dev) ss ≡ 0 = rw t at e in absurd (omega arith)
-    by rest false t (suc i) l e =
-        let n : 1 + position_or_len (λ (x : SeatState). x.dev == dev) ss ≡ suc i = rw t at e in (t, rest i (omega arith) (omega arith))
-
-place_first : (dev : ℕ) (seats : List SeatState) (i : ℕ) → place_of dev seats ≡ Some i → IsFirst dev seats i
-place_first dev seats i e = by (nat_lt (position_or_len (λ (s : SeatState). s.dev == dev) seats) (length seats)) refl
-  where
-    by : (b : Bool) → nat_lt (position_or_len (λ (s : SeatState). s.dev == dev) seats) (length seats) ≡ b → IsFirst dev seats i
-    by true l =
-        let same : Some (position_or_len (λ (s : SeatState). s.dev == dev) seats) ≡ Some i = rw l at e in
-        let at : position_or_len (λ (s : SeatState). s.dev == dev) seats ≡ i = cc in
-        first_from dev seats i (let less : position_or_len (λ (s : SeatState). s.dev == dev) seats < length seats = ltb-true _ _ l in omega arith) at
-    by false l = let n : None ≡ Some i = rw l at e in cc
-
--- it is at that device
-first_is : (dev : ℕ) (seats : List SeatState) (i : ℕ) (s : SeatState) → IsFirst dev seats i → slice_get seats i ≡ Some s → s.dev ≡ dev
-first_is dev [] i s f here = absurd f
-first_is dev (x ∷ xs) zero s f here = let one : s ≡ x = cc in ap (λ (b : SeatState). b.dev) one ∙ eqb-true x.dev dev f
-first_is dev (x ∷ xs) (suc i) s f here = first_is dev xs i s f.1 here
-
-pub placed_at : (dev : ℕ) (seats : List SeatState) (i : ℕ) (s : SeatState) → place_of dev seats ≡ Some i → slice_get seats i ≡ Some s → s.dev ≡ dev
-placed_at dev seats i s at here = first_is dev seats i s (place_first dev seats i at) here
+module _ {S : Type 0} (seen : S → SeatRecord) where
+  -- the seats of a connection are apart, and each has its trace
+  pub seated : (front : Front) (d : Client S) → IsClient seen front d → AreSeated (seats_of seen d.held.items) (traces_of seen d.held.items)
+  seated front d is =
+      record {
+        apart = apart_by (seats_of seen d.held.items) is.apart;
+        told = length-map d.held.items (trace_of seen)
+            ∙ sym (length-map d.held.items (seat_state_of seen));
+      }
 
 -- ---- one more seat
 
@@ -122,25 +59,6 @@ trace_before dev [] [] s t l n = rw n refl
 trace_before dev [] (y ∷ ys) s t l n = absurd (omega arith)
 trace_before dev (x ∷ xs) [] s t l n = absurd (omega arith)
 trace_before dev (x ∷ xs) (y ∷ ys) s t l n = ap (λ z. if x.dev == dev then y else z) (trace_before dev xs ys s t (omega arith) n)
-
-has_last : (dev : ℕ) (seats : List SeatState) (s : SeatState) → has_seat dev seats ≡ false → (s.dev == dev) ≡ false → has_seat dev (seats ++ s ∷ []) ≡ false
-has_last dev [] s h n = rw n refl
-has_last dev (x ∷ xs) s h n = by (λ none. has_last dev xs s none n) (x.dev == dev) refl
-  where
-    by : (has_seat dev xs ≡ false → has_seat dev (xs ++ s ∷ []) ≡ false) → (b : Bool) → (x.dev == dev) ≡ b → has_seat dev ((x ∷ xs) ++ s ∷ []) ≡ false
-    by rest true e = let c : true ≡ false = rw e at h in cc
-    by rest false e = rw e (rest (rw e at h))
-
-turned : (a b : ℕ) → (a == b) ≡ false → (b == a) ≡ false
-turned a b e = grind (arith, nat_tests)
-
-pub apart_last : (seats : List SeatState) (s : SeatState) → AreApart seats → has_seat s.dev seats ≡ false → AreApart (seats ++ s ∷ [])
-apart_last [] s a h = (refl, tt)
-apart_last (x ∷ xs) s a h = by (λ none. apart_last xs s a.1 none) (x.dev == s.dev) refl
-  where
-    by : (has_seat s.dev xs ≡ false → AreApart (xs ++ s ∷ [])) → (b : Bool) → (x.dev == s.dev) ≡ b → AreApart ((x ∷ xs) ++ s ∷ [])
-    by rest true e = let c : true ≡ false = rw e at h in cc
-    by rest false e = (has_last x.dev xs s a.0 (turned _ _ e), rest (rw e at h))
 
 -- ---- one seat fewer
 
@@ -179,26 +97,6 @@ trace_kept k dev zero (x ∷ xs) [] f e = none_left xs
 trace_kept k dev zero (x ∷ xs) (y ∷ ys) f e = rw (same_test x.dev k dev f ∙ e) refl
 trace_kept k dev (suc i) (x ∷ xs) [] f e = refl
 trace_kept k dev (suc i) (x ∷ xs) (y ∷ ys) f e = ap (λ z. if x.dev == dev then y else z) (trace_kept k dev i xs ys f.1 e)
-
-has_kept : (dev i : ℕ) (seats : List SeatState) → has_seat dev seats ≡ false → has_seat dev (remove seats i) ≡ false
-has_kept dev i [] h = by i
-  where
-    by : (i : ℕ) → has_seat dev (remove (let none : List SeatState = [] in none) i) ≡ false
-    by zero = refl
-    by (suc i) = refl
-has_kept dev i (x ∷ xs) h = by (λ j none. has_kept dev j xs none) (x.dev == dev) refl i
-  where
-    by : ((j : ℕ) → has_seat dev xs ≡ false → has_seat dev (remove xs j) ≡ false) → (b : Bool) → (x.dev == dev) ≡ b → (i : ℕ)
-        → has_seat dev (remove (x ∷ xs) i) ≡ false
-    by rest true e i = let c : true ≡ false = rw e at h in cc
-    by rest false e zero = rw e at h
-    by rest false e (suc i) = rw e (rest i (rw e at h))
-
-pub apart_kept : (i : ℕ) (seats : List SeatState) → AreApart seats → AreApart (remove seats i)
-apart_kept zero [] a = tt
-apart_kept (suc i) [] a = tt
-apart_kept zero (x ∷ xs) a = a.1
-apart_kept (suc i) (x ∷ xs) a = (has_kept x.dev i xs a.0, apart_kept i xs a.1)
 
 length_kept : (i : ℕ) (seats : List SeatState) (traces : List (Option Trace)) → length traces ≡ length seats
     → length (remove traces i) ≡ length (remove seats i)
@@ -294,19 +192,6 @@ closed front device n k i seats traces at a = (
     by given is dev x e false here = is dev x (sym (trace_kept k dev i seats traces (place_first k seats i at) here) ∙ e)
 
 -- ---- REMASK
-
--- another seat at the same device, in place of one
-has_under : (dev i : ℕ) (seats : List SeatState) (s s' : SeatState) → slice_get seats i ≡ Some s → s'.dev ≡ s.dev
-    → has_seat dev (slice_set seats i s') ≡ has_seat dev seats
-has_under dev i [] s s' here same = cc
-has_under dev zero (x ∷ xs) s s' here same = let one : s ≡ x = cc in ap (λ (n : ℕ). (n == dev) || has_seat dev xs) (same ∙ ap (λ (b : SeatState). b.dev) one)
-has_under dev (suc i) (x ∷ xs) s s' here same = ap (λ (b : Bool). (x.dev == dev) || b) (has_under dev i xs s s' here same)
-
-pub apart_under : (i : ℕ) (seats : List SeatState) (s s' : SeatState) → slice_get seats i ≡ Some s → s'.dev ≡ s.dev → AreApart seats
-    → AreApart (slice_set seats i s')
-apart_under i [] s s' here same a = cc
-apart_under zero (x ∷ xs) s s' here same a = let one : s ≡ x = cc in (ap (λ (n : ℕ). has_seat n xs) (same ∙ ap (λ (b : SeatState). b.dev) one) ∙ a.0, a.1)
-apart_under (suc i) (x ∷ xs) s s' here same a = (has_under x.dev i xs s s' here same ∙ a.0, apart_under i xs s s' here same a.1)
 
 trace_under : (dev i : ℕ) (seats : List SeatState) (traces : List (Option Trace)) (s s' : SeatState) → slice_get seats i ≡ Some s → s'.dev ≡ s.dev
     → trace_at dev (slice_set seats i s') traces ≡ trace_at dev seats traces

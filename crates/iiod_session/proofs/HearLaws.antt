@@ -20,23 +20,23 @@ use Rattle.iiod_grammar.specs.Lines.{LinesRecord, after_piece}
 use Rattle.iiod_grammar.specs.Scans.{ScansBy, scan_on, scanner_at}
 use Rattle.iiod_grammar.specs.Stream.{Item, Said, Pending, OfWrite, OfWriteBuf, End, ItemsCutAnywhere, ScannerCutAnywhere, Scanned, AtEnd, InLine, after_line, after_said, ended_by, no_item, one_item, payload_after, payload_begun, with_payload}
 use Rattle.iiod_reply.specs.Reply.{Reply, text_of}
-use Rattle.iiod_session.specs.declared.client.OpenSeat.{OpenSeat}
-use Rattle.iiod_session.specs.declared.manner.Going.{Going}
-use Rattle.iiod_session.specs.declared.manner.Going.TheVariants.{On, Waits, Ended}
-use Rattle.iiod_session.specs.declared.manner.Manner.{Manner}
-use Rattle.iiod_session.specs.declared.manner.Manner.TheVariants.{Script, Server}
-use Rattle.iiod_session.specs.declared.manner.Progress.{Progress}
-use Rattle.iiod_session.specs.declared.manner.Progress.TheVariants.{Done, Waits as PerformedWaits}
-use Rattle.iiod_session.specs.Acts.{Acts, act, end_reply, left_client, left_machine}
-use Rattle.iiod_session.specs.Client.{ClientRecord, traces_of}
+use Rattle.iiod_commands.specs.declared.client.OpenSeat.{OpenSeat}
+use Rattle.iiod_session.specs.declared.going.Going.{Going}
+use Rattle.iiod_session.specs.declared.going.Going.TheVariants.{On, Waits, Ended}
+use Rattle.iiod_commands.specs.declared.manner.Manner.{Manner}
+use Rattle.iiod_commands.specs.declared.manner.Manner.TheVariants.{Script, Server}
+use Rattle.iiod_commands.specs.declared.manner.Progress.{Progress}
+use Rattle.iiod_commands.specs.declared.manner.Progress.TheVariants.{Done, Waits as PerformedWaits}
+use Rattle.iiod_commands.specs.Acts.{Acts, act, end_reply, left_client, left_machine}
+use Rattle.iiod_commands.specs.Client.{ClientRecord, traces_of}
 use Rattle.iio_core.specs.Front.{Front}
 use Rattle.iio_core.specs.Machine.{Machine}
-use Rattle.iiod_session.specs.Moves.{AnswersAlone, AnswersAs}
+use Rattle.iiod_commands.specs.Moves.{AnswersAlone, AnswersAs}
 use Rattle.iiod_session.specs.PendingWrite.{PendingRecord, pending_of}
-use Rattle.iiod_session.specs.Performs.{IsAllowed, IsReadOf, Performs}
+use Rattle.iiod_commands.specs.Performs.{IsAllowed, IsAtOnce, IsReadOf, Performs}
 use Rattle.iiod_session.specs.Run.{State, CarriesBy, FedBy}
-use Rattle.iiod_session.specs.Seat.{SeatRecord}
-use Rattle.iiod_session.specs.Session.{IsAtOnce, IsKept, IsPlain, piece_by, stream_by, unread_of}
+use Rattle.iiod_commands.specs.Seat.{SeatRecord}
+use Rattle.iiod_session.specs.Session.{IsKept, IsPlain, piece_by, stream_by, unread_of}
 use Rattle.iiod_session.specs.Watch.{Hears, Tells, is_waiting, waits_in}
 use Rattle.iiod_session.proofs.WatchLaws.{scene}
 use Rattle.iiod_session.proofs.FeedLaws.{fed_more, fed_none, fed_one, fed_then, feeds_more, feeds_of, feeds_on, feeds_then, goes_on}

@@ -1,15 +1,6 @@
-pub mod BlockLaws
-pub mod SeatsLaws
-pub mod HeldLaws
-pub mod ServeLaws
-pub mod SettleLaws
 pub mod FeedLaws
 pub mod GivenLaws
 pub mod StreamLaws
 pub mod WatchLaws
 pub mod TellLaws
 pub mod HearLaws
-pub mod AnswerLaws
-pub mod NameLaws
-pub mod AttributeLaws
-pub mod ShortLaws

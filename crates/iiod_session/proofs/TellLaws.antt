@@ -4,14 +4,14 @@ use Rattle.std.specs.List.{flat_map}
 use Rattle.iio_base.specs.declared.Mem.{Mem}
 use Rattle.iiod_grammar.specs.Stream.{Item, Scanned}
 use Rattle.iiod_reply.specs.Reply.{Reply, Nothing, Number, Refusal, Line, Value, Raw, Block, NoMemory, text_of}
-use Rattle.iiod_session.specs.declared.manner.Going.{Going}
-use Rattle.iiod_session.specs.declared.manner.Going.TheVariants.{On, Waits, Ended}
-use Rattle.iiod_session.specs.declared.manner.Manner.{Manner}
-use Rattle.iiod_session.specs.declared.manner.Manner.TheVariants.{Script, Server}
-use Rattle.iiod_session.specs.Acts.{Acted, Acts, act}
+use Rattle.iiod_session.specs.declared.going.Going.{Going}
+use Rattle.iiod_session.specs.declared.going.Going.TheVariants.{On, Waits, Ended}
+use Rattle.iiod_commands.specs.declared.manner.Manner.{Manner}
+use Rattle.iiod_commands.specs.declared.manner.Manner.TheVariants.{Script, Server}
+use Rattle.iiod_commands.specs.Acts.{Acted, Acts, act}
 use Rattle.iio_core.specs.Front.{Front}
 use Rattle.iio_core.specs.Machine.{Machine}
-use Rattle.iiod_session.specs.Performs.{IsAllowed}
+use Rattle.iiod_commands.specs.Performs.{IsAllowed}
 use Rattle.iiod_session.specs.Run.{State, IsAnswered, Run, Carries, FeedTells, Tells}
 
 -- what one item made

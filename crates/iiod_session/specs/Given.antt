@@ -4,9 +4,9 @@ use Rattle.std.specs.Option.{option_map_or}
 use Rattle.iiod_grammar.specs.Command.{Open, ReadBuf, Remask}
 use Rattle.iiod_grammar.specs.Stream.{Item, Said}
 use Rattle.iiod_reply.specs.Reply.{Reply, Number, Block}
-use Rattle.iiod_session.specs.Client.{SeatState}
+use Rattle.iiod_commands.specs.Client.{SeatState}
 use Rattle.iio_core.specs.Front.{Front, find_device}
-use Rattle.iiod_session.specs.Seat.{Trace}
+use Rattle.iiod_commands.specs.Seat.{Trace}
 
 -- whether the device of that number has the name
 abbrev pub is_named : Front → List ℕ → ℕ → Bool

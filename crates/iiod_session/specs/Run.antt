@@ -4,19 +4,19 @@ use Rattle.std.specs.List.{flat_map}
 use Rattle.iio_text.specs.declared.errors.Errno.TheVariants.{EAGAIN}
 use Rattle.iiod_grammar.specs.Stream.{Item, Scanned, AtEnd}
 use Rattle.iiod_reply.specs.Reply.{Reply, Refusal, text_of}
-use Rattle.iiod_session.specs.declared.client.Client.{Client}
-use Rattle.iiod_session.specs.declared.manner.Going.{Going}
-use Rattle.iiod_session.specs.declared.manner.Going.TheVariants.{On, Waits, Ended}
-use Rattle.iiod_session.specs.declared.manner.Manner.{Manner}
-use Rattle.iiod_session.specs.declared.manner.Manner.TheVariants.{Script, Server}
-use Rattle.iiod_session.specs.Acts.{act}
-use Rattle.iiod_session.specs.Client.{ClientRecord, client_of, traces_of}
+use Rattle.iiod_commands.specs.declared.client.Client.{Client}
+use Rattle.iiod_session.specs.declared.going.Going.{Going}
+use Rattle.iiod_session.specs.declared.going.Going.TheVariants.{On, Waits, Ended}
+use Rattle.iiod_commands.specs.declared.manner.Manner.{Manner}
+use Rattle.iiod_commands.specs.declared.manner.Manner.TheVariants.{Script, Server}
+use Rattle.iiod_commands.specs.Acts.{act}
+use Rattle.iiod_commands.specs.Client.{ClientRecord, client_of, traces_of}
 use Rattle.iio_core.specs.Front.{Front}
 use Rattle.iiod_session.specs.Given.{GivenIs}
 use Rattle.iio_core.specs.Machine.{Machine}
-use Rattle.iiod_session.specs.Moves.{Serves}
-use Rattle.iiod_session.specs.Performs.{IsAllowed, IsAnswerOf, IsReadOf}
-use Rattle.iiod_session.specs.Seat.{SeatRecord, Trace}
+use Rattle.iiod_commands.specs.Moves.{Serves}
+use Rattle.iiod_commands.specs.Performs.{IsAllowed, IsAnswerOf, IsReadOf}
+use Rattle.iiod_commands.specs.Seat.{SeatRecord, Trace}
 
 -- the state of the devices, if it is told, and what the connection has, with the traces of its seats
 pub record State : Type 0 where

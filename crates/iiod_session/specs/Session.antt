@@ -8,10 +8,10 @@ use Rattle.iiod_grammar.specs.Command.{Command, Exit, ReadBuf, Write, WriteBuf, 
 use Rattle.iiod_grammar.specs.Lines.{LinesRecord, after_piece}
 use Rattle.iiod_grammar.specs.Scans.{scanner_at}
 use Rattle.iiod_grammar.specs.Stream.{AtEnd, InLine, Scanned, with_payload, after_line, ended_by, no_item, one_item}
-use Rattle.iiod_session.specs.declared.client.Client.{Client}
-use Rattle.iiod_session.specs.declared.manner.Going.{Going}
-use Rattle.iiod_session.specs.declared.manner.Going.TheVariants.{On, Waits, Ended}
-use Rattle.iiod_session.specs.declared.manner.Manner.{Manner}
+use Rattle.iiod_commands.specs.declared.client.Client.{Client}
+use Rattle.iiod_session.specs.declared.going.Going.{Going}
+use Rattle.iiod_session.specs.declared.going.Going.TheVariants.{On, Waits, Ended}
+use Rattle.iiod_commands.specs.declared.manner.Manner.{Manner}
 use Rattle.iiod_session.specs.PendingWrite.{PendingRecord, pending_of}
 
 -- the manner, what the connection has, and its stream: the items that are whole and not answered yet, and where the stream
@@ -36,14 +36,6 @@ IsPlain (Ok Exit) = ⊥
 IsPlain (Ok (Write device target count)) = ⊥
 IsPlain (Ok (WriteBuf device count)) = ⊥
 IsPlain said = Unit {0}
-
--- a line other than an EXIT, WRITE, WRITEBUF or READBUF: it is answered as soon as it is whole
-abbrev pub IsAtOnce : Result Command Refused → Type 0
-IsAtOnce (Ok Exit) = ⊥
-IsAtOnce (Ok (Write device target count)) = ⊥
-IsAtOnce (Ok (WriteBuf device count)) = ⊥
-IsAtOnce (Ok (ReadBuf device asked)) = ⊥
-IsAtOnce said = Unit {0}
 
 -- further lines can be taken, or the last piece is the line of the READBUF that is kept
 abbrev pub IsReady : Going → LinesRecord → (pending : PendingRecord) → Type 0

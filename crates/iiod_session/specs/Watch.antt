@@ -6,16 +6,16 @@ use Rattle.iiod_grammar.specs.Command.{Command as SaidCommand, Exit, Write, Writ
 use Rattle.iiod_grammar.specs.Stream.{Item, Said, Written, Streamed, End, Scanned}
 use Rattle.iiod_grammar.specs.View.{command_view}
 use Rattle.iiod_reply.specs.Reply.{Reply}
-use Rattle.iiod_session.specs.declared.client.Client.{Client}
-use Rattle.iiod_session.specs.declared.manner.Going.{Going}
-use Rattle.iiod_session.specs.declared.manner.Going.TheVariants.{Waits}
-use Rattle.iiod_session.specs.declared.manner.Manner.{Manner}
+use Rattle.iiod_commands.specs.declared.client.Client.{Client}
+use Rattle.iiod_session.specs.declared.going.Going.{Going}
+use Rattle.iiod_session.specs.declared.going.Going.TheVariants.{Waits}
+use Rattle.iiod_commands.specs.declared.manner.Manner.{Manner}
 use Rattle.iiod_session.specs.declared.watch.Seen.{Seen}
 use Rattle.iiod_session.specs.declared.watch.Seen.TheVariants.{Command, Refused, TooLong}
 use Rattle.iio_core.specs.Front.{Front}
 use Rattle.iio_core.specs.Machine.{Machine}
 use Rattle.iiod_session.specs.Run.{State, CarriesBy, FedBy, FindsNone, IsAnswered, state_of}
-use Rattle.iiod_session.specs.Seat.{SeatRecord}
+use Rattle.iiod_commands.specs.Seat.{SeatRecord}
 use Rattle.iiod_session.specs.Session.{IsPlain}
 
 -- a command whose payload is too large

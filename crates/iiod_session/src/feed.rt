@@ -7,27 +7,25 @@ ghost use Rattle.iiod_grammar.specs.Scans.{scan_on};
 ghost use Rattle.iiod_grammar.specs.Stream.{AtEnd, End, after_line, ended_by, no_item, with_payload};
 ghost use Rattle.iiod_grammar.specs.View.{command_view};
 ghost use Rattle.iiod_reply.specs.Reply.{text_of};
-ghost use Rattle.iiod_session.specs.Acts.{end_reply};
-ghost use Rattle.iiod_session.specs.Client.{IsClient, client_of, traces_of};
+ghost use Rattle.iiod_commands.specs.Acts.{end_reply};
+ghost use Rattle.iiod_commands.specs.Client.{IsClient, client_of, traces_of};
 ghost use Rattle.iiod_session.specs.PendingWrite.{PendingRecord, pending_of};
-ghost use Rattle.iiod_session.specs.Performs.{Performs};
-ghost use Rattle.iiod_session.specs.Session.{IsAtOnce, IsKept, IsReady, IsWhole, piece_by, stream_by, unread_of};
+ghost use Rattle.iiod_commands.specs.Performs.{IsAtOnce, Performs};
+ghost use Rattle.iiod_session.specs.Session.{IsKept, IsReady, IsWhole, piece_by, stream_by, unread_of};
 ghost use Rattle.iiod_session.specs.Watch.{Hears, IsSeen, is_waiting, scene_of};
-ghost use Rattle.iiod_session.specs.declared.manner.Going.{Going};
-ghost use Rattle.iiod_session.specs.declared.manner.Manner.{Manner};
+ghost use Rattle.iiod_session.specs.declared.going.Going.{Going};
+ghost use Rattle.iiod_commands.specs.declared.manner.Manner.{Manner};
 ghost use Rattle.iiod_grammar.specs.declared.lines.Ready.{Ready};
 
-use crate::answers::push_refusal;
-use crate::buffers::read_buffer;
-use crate::client::Client;
-use crate::iio::Iio;
-use crate::leave::leave;
-use crate::manner::{Going, Manner, Progress};
+use crate::going::Going;
 use crate::pending_write::PendingWrite;
-use crate::perform::{perform, perform_refused, perform_streamed, perform_written};
 use crate::watch::{Seen, Watch, count_of};
 use iio_base::Mem;
 use iio_text::Errno;
+use iiod_commands::{
+    Client, Iio, Manner, Progress, leave, perform, perform_refused, perform_streamed,
+    perform_written, push_refusal, read_buffer,
+};
 use iiod_grammar::{Command, Lines, MAX_PAYLOAD, Ready, Refused, cut_anywhere, read_line};
 use std::alloc::Global;
 

@@ -3,7 +3,7 @@
 ghost use Rattle.std.specs.Prelude.{◌≡◌, length, min};
 ghost use Rattle.iiod_grammar.specs.declared.lines.TheConstants.{MAX_PAYLOAD};
 
-use crate::iio::Iio;
+use iiod_commands::Iio;
 use iiod_grammar::{Command, MAX_PAYLOAD};
 
 /// An item of a stream, as it is told to a [`Watch`].

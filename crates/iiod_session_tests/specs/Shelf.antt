@@ -1,6 +1,6 @@
 -- What a seat of the shelf records, and what the shelf gives it.
 use Rattle.std.specs.Prelude.{◌≡◌, ℕ, Bool, true, false, List, [], ◌∷◌, ◌++◌, length, map, Some, option_map}
-use Rattle.iiod_session.specs.Seat.{SeatRecord, after_scans}
+use Rattle.iiod_commands.specs.Seat.{SeatRecord, after_scans}
 use Rattle.iiod_session_tests.specs.declared.shelf.ShelfSeat.{ShelfSeat}
 
 abbrev pub seen_of : ShelfSeat → SeatRecord

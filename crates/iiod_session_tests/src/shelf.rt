@@ -3,7 +3,7 @@
 ghost use Rattle.std.specs.Prelude.{◌≡◌, ◌+◌, ◌≤◌, false, length, option_map, vec_capacity, IfOk};
 ghost use Rattle.iio_desc.specs.WellFormed.{IsWellFormed};
 ghost use Rattle.iiod_bank.specs.FrontOf.{front_of, served_front};
-ghost use Rattle.iiod_session.specs.Seat.{after_nothing};
+ghost use Rattle.iiod_commands.specs.Seat.{after_nothing};
 ghost use Rattle.iiod_session_tests.specs.Shelf.{Gives, seen_of};
 
 use iio_attr::{Attr, Value};

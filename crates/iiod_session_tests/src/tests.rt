@@ -4,7 +4,7 @@ ghost use Rattle.std.specs.Prelude.{◌≡◌, ◌+◌, ◌-◌, ◌^◌, ◌<�
 ghost use Rattle.iio_desc.specs.DescReader.{drivers_of, line_count};
 ghost use Rattle.iio_desc.specs.WellFormed.{IsWellFormed};
 ghost use Rattle.iiod_bank.specs.FrontOf.{front_of};
-ghost use Rattle.iiod_session.specs.Client.{IsClient};
+ghost use Rattle.iiod_commands.specs.Client.{IsClient};
 ghost use Rattle.iiod_session_tests.specs.Shelf.{seen_of};
 
 use crate::shelf::{Shelf, ShelfSeat};

@@ -3,7 +3,7 @@
 ghost use Rattle.std.specs.Prelude.{IfOk, ◌<◌, length};
 ghost use Rattle.iio_desc.specs.WellFormed.{IsWellFormed};
 ghost use Rattle.iiod_hub.specs.Link.{seen_of};
-ghost use Rattle.iiod_session.specs.Client.{IsClient};
+ghost use Rattle.iiod_commands.specs.Client.{IsClient};
 
 use super::doubles::Texts;
 use super::sessions::{handle, hear, link_to, poll, tick_once, unplug};

@@ -2,7 +2,7 @@
 
 ghost use Rattle.std.specs.Prelude.{◌≡◌, ◌<◌, length, ⊤};
 ghost use Rattle.iiod_hub.specs.Link.{seen_of};
-ghost use Rattle.iiod_session.specs.Client.{IsClient};
+ghost use Rattle.iiod_commands.specs.Client.{IsClient};
 
 use super::sessions::{handle, hear, link_to, poll};
 use iiod_bank::{Bank, OwnBank};

@@ -3,7 +3,7 @@
 
 ghost use Rattle.std.specs.Prelude.{◌≡◌, ◌<◌, length, IfOk, ⊤};
 ghost use Rattle.iiod_hub.specs.Link.{seen_of};
-ghost use Rattle.iiod_session.specs.Client.{IsClient};
+ghost use Rattle.iiod_commands.specs.Client.{IsClient};
 
 use super::described;
 use iio_device::Handled;

@@ -5,7 +5,7 @@ use Rattle.iio_device.specs.Plug.{driver_of}
 use Rattle.iio_device.specs.Site.{is_empty}
 use Rattle.iio_core.specs.Calls.{open_of}
 use Rattle.iio_core.specs.Machine.{Station}
-use Rattle.iiod_session.specs.Seat.{Answers, number_by}
+use Rattle.iiod_commands.specs.Seat.{Answers, number_by}
 use Rattle.iio_system.specs.Bench.{front_of, machine_of}
 use Rattle.iio_system.specs.Seat.{seen_of}
 use Rattle.iio_kinds.specs.Station.{any_front, any_station, base_of}

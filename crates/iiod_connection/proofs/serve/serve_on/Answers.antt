@@ -1,6 +1,6 @@
 use Rattle.std.proofs.Common.{◌≡◌, IfSome, Some, subst}
-use Rattle.iiod_session.specs.Acts.{left_machine}
-use Rattle.iiod_session.specs.Client.{client_of}
+use Rattle.iiod_commands.specs.Acts.{left_machine}
+use Rattle.iiod_commands.specs.Client.{client_of}
 use Rattle.iiod_connection.specs.Place.{first_place, place_of}
 use Rattle.iiod_connection.proofs.Whole.{closed_by, is_first_place, nothing_heard, served_all}
 use Rattle.iiod_connection.proofs.serve.serve_on.Goals as goal

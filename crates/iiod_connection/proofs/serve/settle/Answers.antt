@@ -1,5 +1,5 @@
 use Rattle.std.proofs.Common.{rules, ◌≡◌, ◌<◌, ◌∙◌, [], length, subst, refl, Ok, Err}
-use Rattle.iiod_session.specs.declared.manner.Going.{Going}
+use Rattle.iiod_session.specs.declared.going.Going.{Going}
 use Rattle.iiod_connection.specs.Place.{place_of}
 use Rattle.iiod_connection.specs.Talks.{SendsOnce, StandsBy}
 use Rattle.iiod_connection.proofs.TalkLaws.{once_err, sends_on, sends_once, turns_cut}

@@ -1,6 +1,6 @@
 use Rattle.std.proofs.Common.{◌≡◌, ◌≤◌, ◌<◌, ◌-◌, [], length, take, IfSome}
-use Rattle.iiod_session.specs.Client.{IsClient}
-use Rattle.iiod_session.specs.declared.manner.Manner.TheVariants.{Server}
+use Rattle.iiod_commands.specs.Client.{IsClient}
+use Rattle.iiod_commands.specs.declared.manner.Manner.TheVariants.{Server}
 use Rattle.iiod_connection.specs.Place.{place_of}
 use Rattle.iiod_connection.specs.Talks.{SendsAll}
 use Rattle.iiod_connection.proofs.serve.turn.Given as goal

@@ -2,7 +2,7 @@ use Rattle.std.proofs.Common.{rules, ◌≤◌, sym, ap, ◌∙◌, drop, length
 use Rattle.std.proofs.lemmas.List.{take_rest}
 use Rattle.iiod_grammar.specs.Scans.{scan_on}
 use Rattle.iiod_session.specs.Session.{stream_by}
-use Rattle.iiod_session.specs.declared.manner.Going.TheVariants.{On}
+use Rattle.iiod_session.specs.declared.going.Going.TheVariants.{On}
 use Rattle.iiod_session.specs.PendingWrite.{pending_of}
 use Rattle.iiod_session.proofs.HearLaws.{all_taken, more_feeds, none_after, on_fed, piece_scans, rest_after, stop_feeds}
 use Rattle.iiod_session.proofs.StreamLaws.{more_takes, more_waits}

@@ -1,10 +1,10 @@
 use Rattle.std.proofs.Common.{◌≡◌, ◌≤◌, ◌+◌, ◌-◌, ℕ, drop, false, length}
 use Rattle.std.specs.Option.{option_map_or}
 use Rattle.iiod_grammar.specs.Scans.{scan_on}
-use Rattle.iiod_session.specs.Client.{IsClient}
+use Rattle.iiod_commands.specs.Client.{IsClient}
 use Rattle.iiod_session.specs.Session.{IsReady, stream_by}
 use Rattle.iiod_session.specs.Watch.{Heard, scene_of}
-use Rattle.iiod_session.specs.declared.manner.Going.TheVariants.{On}
+use Rattle.iiod_session.specs.declared.going.Going.TheVariants.{On}
 use Rattle.iiod_session.proofs.feed.carry_on.Given as goal
 
 abbrev pub invariant-loop-client : goal.invariant-loop-client

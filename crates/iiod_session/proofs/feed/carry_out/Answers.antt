@@ -4,7 +4,7 @@ use Rattle.iiod_grammar.specs.Lines.{LinesRecord}
 use Rattle.iiod_grammar.specs.Scans.{scan_on}
 use Rattle.iiod_session.specs.Session.{stream_by}
 use Rattle.iiod_session.specs.Watch.{is_waiting, scene_of}
-use Rattle.iiod_session.specs.declared.manner.Going.TheVariants.{On}
+use Rattle.iiod_session.specs.declared.going.Going.TheVariants.{On}
 use Rattle.iiod_session.proofs.FeedLaws.{feeds_more}
 use Rattle.iiod_session.proofs.HearLaws.{again_feeds, ended_feeds, none_begun, resumed}
 use Rattle.iiod_session.proofs.feed.carry_out.Goals as goal

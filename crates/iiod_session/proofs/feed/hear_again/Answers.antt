@@ -1,5 +1,5 @@
 use Rattle.std.proofs.Common.{refl, true}
-use Rattle.iiod_session.specs.declared.manner.Progress.TheVariants.{Done, Waits}
+use Rattle.iiod_commands.specs.declared.manner.Progress.TheVariants.{Done, Waits}
 use Rattle.iiod_session.proofs.HearLaws.{said_feeds}
 use Rattle.iiod_session.proofs.feed.hear_again.Goals as goal
 

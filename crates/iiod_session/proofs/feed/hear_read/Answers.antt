@@ -1,7 +1,7 @@
 use Rattle.std.proofs.Common.{refl, false, Ok}
 use Rattle.iiod_grammar.specs.Command.{ReadBuf}
 use Rattle.iiod_grammar.specs.Stream.{Said}
-use Rattle.iiod_session.specs.declared.manner.Progress.TheVariants.{Done, Waits}
+use Rattle.iiod_commands.specs.declared.manner.Progress.TheVariants.{Done, Waits}
 use Rattle.iiod_session.proofs.HearLaws.{said_feeds}
 use Rattle.iiod_session.proofs.feed.hear_read.Goals as goal
 

@@ -1,7 +1,7 @@
 use Rattle.std.proofs.Common.{refl, Ok}
 use Rattle.iiod_grammar.specs.Stream.{Said}
 use Rattle.iiod_grammar.specs.View.{command_view}
-use Rattle.iiod_session.specs.declared.manner.Progress.TheVariants.{Done}
+use Rattle.iiod_commands.specs.declared.manner.Progress.TheVariants.{Done}
 use Rattle.iiod_session.proofs.HearLaws.{at_once_feeds, once_plain}
 use Rattle.iiod_session.proofs.feed.hear_said.Goals as goal
 

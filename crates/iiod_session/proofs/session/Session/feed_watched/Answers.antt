@@ -1,8 +1,8 @@
 use Rattle.std.proofs.Common.{Ok, ap}
-use Rattle.iiod_session.specs.Client.{ClientRecord}
+use Rattle.iiod_commands.specs.Client.{ClientRecord}
 use Rattle.iiod_session.proofs.FeedLaws.{feeds_given}
 use Rattle.iiod_session.proofs.HearLaws.{waits_by}
-use Rattle.iiod_session.proofs.SeatsLaws.{seated}
+use Rattle.iiod_session.proofs.GivenLaws.{seated}
 use Rattle.iiod_session.proofs.StreamLaws.{scan_end}
 use Rattle.iiod_session.proofs.TellLaws.{feed_tells}
 use Rattle.iiod_session.proofs.WatchLaws.{carries_of}

@@ -1,0 +1,10 @@
+pub mod BlockLaws
+pub mod SeatsLaws
+pub mod HeldLaws
+pub mod ServeLaws
+pub mod SettleLaws
+pub mod ApartLaws
+pub mod AnswerLaws
+pub mod NameLaws
+pub mod AttributeLaws
+pub mod ShortLaws

@@ -1,0 +1,667 @@
+-- One item and its answer.
+use Rattle.std.proofs.Common.{◌≡◌, ◌⊎◌, ℕ, ◌+◌, ◌≤◌, Bool, true, false, not, cond, List, ◌++◌, length, arith, inl, inr, Option, Some, None, IfSome, Result, Ok, Err, IfOk, OnOk, refl, sym, ap, ◌∙◌}
+use Rattle.std.specs.Prelude.{⊤}
+use Rattle.iio_base.specs.declared.Mem.{Mem}
+use Rattle.iio_text.specs.declared.errors.Errno.{Errno}
+use Rattle.iio_text.specs.declared.errors.Errno.TheVariants.{EAGAIN, EBADF, EBUSY, ENODEV, ENOSYS}
+use Rattle.iio_base.specs.Refusals.{ensure, ◌>>=◌}
+use Rattle.iio_desc.specs.Kind.{is_average, is_output}
+use Rattle.iio_device.specs.Site.{is_empty}
+use Rattle.iiod_grammar.specs.Command.{Command, Open, Close, Read, ReadBuf, GetTrig, SetTrig, SetBuffers, Remask, EvOpen, EvRead, EvClose}
+use Rattle.iiod_grammar.specs.Stream.{Item, Said, Streamed}
+use Rattle.iiod_reply.specs.Reply.{Reply, Nothing, Number, Refusal, Line, Value, Raw, Block, NoMemory, text_of}
+use Rattle.iiod_commands.specs.declared.answers.TheConstants.{SHORT_ANSWER}
+use Rattle.iiod_commands.specs.declared.iio.No.{No}
+use Rattle.iiod_commands.specs.declared.iio.No.TheVariants.{Errno as NoErrno, Mem as NoMem}
+use Rattle.iiod_commands.specs.declared.iio.Took.{Took}
+use Rattle.iiod_commands.specs.declared.iio.Took.TheVariants.{Scan, Empty, Gone}
+use Rattle.iiod_commands.specs.declared.manner.Manner.{Manner}
+use Rattle.iiod_commands.specs.declared.manner.Manner.TheVariants.{Script, Server}
+use Rattle.iiod_commands.specs.declared.manner.Progress.{Progress}
+use Rattle.iiod_commands.specs.declared.manner.Progress.TheVariants.{Done, Waits}
+use Rattle.iiod_commands.specs.Acts.{Acted, Acts, act, altered, at_device, refused, retriggered, settled, open_at, close_at, read_at, read_buffer_at, read_attribute_at, ev_close_known, ev_open_known, ev_read_known, get_trigger_at, remask_known, set_buffers_at, set_trigger_at, trigger_named, where_known, write_buffer_at, zero_reply}
+use Rattle.iiod_commands.specs.Answers.{IsAt}
+use Rattle.iiod_commands.specs.Client.{SeatState, ClientRecord, place_of, with_count, with_holding, without_holding}
+use Rattle.iio_core.specs.Front.{Front, find_device, kind_at}
+use Rattle.iio_core.specs.Machine.{Machine, is_plugged, station_at, with_site}
+use Rattle.iio_core.specs.Calls.{CallResult, set_trigger_of, unless}
+use Rattle.iiod_commands.specs.Moves.{Accepts, AnswersAlone, AnswersAs, IsOrShort, Moves, ReadsBy, Serves, at_known, at_seat}
+use Rattle.iiod_commands.specs.Performs.{AnswersRead, Comes, HasRoomAfter, IsAllowed, IsAnswerOf, IsFound, IsWhole, LeavesBy, OpensBy, Performs, ReadAt, ReadServedAt, RemasksBy, client_by, reply_by, taken_by}
+use Rattle.iiod_commands.specs.Seat.{Answers, Trace}
+
+-- an outcome that is the item's
+pub comes_acts : (front : Front) (m : Machine) (client client' : ClientRecord) (item : Item) (o : Acted) (reply : Reply) (told' : Option Machine)
+    → act front m client item ≡ o
+    → Comes m client o reply told' client' → Acts front m client item reply told' client'
+comes_acts front m client client' item o NoMemory told' e c = c
+comes_acts front m client client' item o Nothing told' e c = (c.0, c.1, e ∙ c.2)
+comes_acts front m client client' item o (Number n) told' e c = (c.0, c.1, e ∙ c.2)
+comes_acts front m client client' item o (Refusal x) told' e c = (c.0, c.1, e ∙ c.2)
+comes_acts front m client client' item o (Line t) told' e c = (c.0, c.1, e ∙ c.2)
+comes_acts front m client client' item o (Value t) told' e c = (c.0, c.1, e ∙ c.2)
+comes_acts front m client client' item o (Raw t) told' e c = (c.0, c.1, e ∙ c.2)
+comes_acts front m client client' item o (Block a b d f) told' e c = (c.0, c.1, e ∙ c.2)
+
+pub all_comes : (front : Front) (told told' : Option Machine) (client client' : ClientRecord) (item : Item) (o : Machine → Acted) (reply : Reply)
+    → ((m : Machine) → act front m client item ≡ o m)
+    → IfSome told (λ m. Comes m client (o m) reply told' client') → IfSome told (λ m. Acts front m client item reply told' client')
+all_comes front None told' client client' item o reply e c = tt
+all_comes front (Some m) told' client client' item o reply e c = comes_acts front m client client' item (o m) reply told' (e m) c
+
+-- at a device of a kind that knows the command, and at one of another kind
+pub known : (is : Bool) (told told' : Option Machine) (client client' : ClientRecord) (dev : ℕ) (acted : Machine → Acted) (reply : Reply) → is ≡ true
+    → IfSome told (λ m. Comes m client (acted m) reply told' client')
+    → IfSome told (λ m. Comes m client (where_known is m client dev (acted m)) reply told' client')
+known is told told' client client' dev acted reply e c = rw e c
+
+pub not_known : (is : Bool) (told : Option Machine) (client : ClientRecord) (dev : ℕ) (acted : Machine → Acted) (reply : Reply) → is ≡ false
+    → ((d : ClientRecord) (a : Acted) → IfSome told (λ m. Comes m d (where_known false m d dev a) reply told d))
+    → IfSome told (λ m. Comes m client (where_known is m client dev (acted m)) reply told client)
+not_known is None client dev acted reply e u = tt
+not_known is (Some m) client dev acted reply e u = rw e (u client (acted m))
+
+-- a refusal changes nothing
+pub all_refused : (front : Front) (told : Option Machine) (client : ClientRecord) (item : Item) (e : Errno)
+    → ((m : Machine) → act front m client item ≡ refused e m client) → IfSome told (λ m. Acts front m client item (Refusal e) told client)
+all_refused front None client item e is = tt
+all_refused front (Some m) client item e is = (m, refl, is m)
+
+-- ---- answers over any devices
+
+-- if the connection has no seat at the device
+seatless : (p : Option ℕ) (reply : Reply) → (p ≡ None → reply ≡ Refusal EBADF) → IfSome (at_seat p) (λ answer. IsOrShort answer reply)
+seatless None reply h = inl (h refl)
+seatless (Some i) reply h = tt
+
+-- lack of memory, instead of another answer
+pub short_at : (o : Option ℕ) → IfSome (at_known (λ dev. None) o) (λ answer. IsOrShort answer NoMemory)
+short_at None = inr refl
+short_at (Some dev) = tt
+
+short_place : (p : Option ℕ) → IfSome (at_seat p) (λ answer. IsOrShort answer NoMemory)
+short_place None = inr refl
+short_place (Some i) = tt
+
+pub short_seat : (seats : List SeatState) (o : Option ℕ) → IfSome (at_known (λ dev. at_seat (place_of dev seats)) o) (λ answer. IsOrShort answer NoMemory)
+short_seat seats None = inr refl
+short_seat seats (Some dev) = short_place (place_of dev seats)
+
+-- ... instead of a READBUF's answer, for which an output device is asked
+short_reader : (front : Front) (seats : List SeatState) (o : Option ℕ)
+    → IfSome (at_known (λ dev. cond (is_output (kind_at front dev)) None (at_seat (place_of dev seats))) o) (λ answer. IsOrShort answer NoMemory)
+short_reader front seats None = inr refl
+short_reader front seats (Some dev) = by (is_output (kind_at front dev))
+  where
+    by : (b : Bool) → IfSome (cond b None (at_seat (place_of dev seats))) (λ answer. IsOrShort answer NoMemory)
+    by true = tt
+    by false = short_place (place_of dev seats)
+
+-- a command that is answered by 0 if it isn't refused
+pub settles : (front : Front) (item : Item) (r : Result ⊤ No) → Accepts front item zero_reply → AnswersAs front item (reply_by r)
+settles front item (Ok done) a = a
+settles front item (Err (NoErrno e)) a = tt
+settles front item (Err NoMem) a = tt
+
+-- ---- a command at a device
+
+-- what it makes at the device of that number
+abbrev pub on_device : Front → Machine → ClientRecord → Command → ℕ → Acted
+on_device front m client (Open device samples text cyclic) = λ dev. open_at front m client dev samples text cyclic
+on_device front m client (Close device) = λ dev. close_at front m client (place_of dev client.seats)
+on_device front m client (Read device place name) = λ dev. read_attribute_at front m client place name dev
+on_device front m client (GetTrig device) = λ dev. get_trigger_at front m client dev
+on_device front m client (SetTrig device name) = λ dev. set_trigger_at front m client name dev
+on_device front m client (SetBuffers device n) = λ dev. set_buffers_at m client n dev
+on_device front m client (Remask device text) = λ dev. remask_known front m client text dev
+on_device front m client (EvOpen device) = λ dev. ev_open_known front m client dev
+on_device front m client (EvRead device) = λ dev. ev_read_known front m client dev
+on_device front m client (EvClose device) = λ dev. ev_close_known front m client dev
+on_device front m client command = λ dev. refused ENODEV m client
+
+act_at : (front : Front) (m : Machine) (client : ClientRecord) (o : Option ℕ) (command : Command) → IsAt front o command
+    → act front m client (Said (Ok command)) ≡ at_device m client (on_device front m client command) o
+unfolding act
+act_at front m client o (Open device samples text cyclic) e = ap (λ x. at_device m client (λ dev. open_at front m client dev samples text cyclic) x) (sym e)
+act_at front m client o (Close device) e = ap (λ x. at_device m client (λ dev. close_at front m client (place_of dev client.seats)) x) (sym e)
+act_at front m client o (Read device place name) e = ap (λ x. at_device m client (λ dev. read_attribute_at front m client place name dev) x) (sym e)
+act_at front m client o (GetTrig device) e = ap (λ x. at_device m client (λ dev. get_trigger_at front m client dev) x) (sym e)
+act_at front m client o (SetTrig device name) e = ap (λ x. at_device m client (λ dev. set_trigger_at front m client name dev) x) (sym e)
+act_at front m client o (SetBuffers device n) e = ap (λ x. at_device m client (λ dev. set_buffers_at m client n dev) x) (sym e)
+act_at front m client o (Remask device text) e = ap (λ x. at_device m client (λ dev. remask_known front m client text dev) x) (sym e)
+act_at front m client o (EvOpen device) e = ap (λ x. at_device m client (λ dev. ev_open_known front m client dev) x) (sym e)
+act_at front m client o (EvRead device) e = ap (λ x. at_device m client (λ dev. ev_read_known front m client dev) x) (sym e)
+act_at front m client o (EvClose device) e = ap (λ x. at_device m client (λ dev. ev_close_known front m client dev) x) (sym e)
+act_at front m client o command e = absurd e
+
+-- if there is no device of that name
+unknown : (front : Front) (told : Option Machine) (client : ClientRecord) (traces : List (Option Trace)) (command : Command) → IsAt front None command
+    → AnswersAlone front client (Said (Ok command)) (Refusal ENODEV) → Moves front client traces (Said (Ok command)) (Refusal ENODEV) client traces
+    → Serves front told client traces (Said (Ok command)) (Refusal ENODEV) told client traces
+unknown front told client traces command e alone moves =
+    record { alone = alone; formed = tt; exact = all_refused front told client _ ENODEV (λ m. act_at front m client None command e); moves = moves }
+
+pub serves_unknown : (front : Front) (told : Option Machine) (client : ClientRecord) (traces : List (Option Trace)) (command : Command)
+    → IsAt front None command
+    → Serves front told client traces (Said (Ok command)) (Refusal ENODEV) told client traces
+serves_unknown front told client traces (Open device samples text cyclic) e =
+    unknown front told client traces (Open device samples text cyclic) e (rw (sym e) (inl refl)) (refl, refl)
+serves_unknown front told client traces (Close device) e = unknown front told client traces (Close device) e (rw (sym e) (inl refl)) (refl, refl)
+serves_unknown front told client traces (Read device place name) e =
+    unknown front told client traces (Read device place name) e (rw (sym e) (inl refl)) (refl, refl)
+serves_unknown front told client traces (GetTrig device) e = unknown front told client traces (GetTrig device) e (rw (sym e) (inl refl)) (refl, refl)
+serves_unknown front told client traces (SetTrig device name) e = unknown front told client traces (SetTrig device name) e (rw (sym e) (inl refl)) (refl, refl)
+serves_unknown front told client traces (SetBuffers device n) e = unknown front told client traces (SetBuffers device n) e (rw (sym e) (inl refl)) (refl, refl)
+serves_unknown front told client traces (Remask device text) e = unknown front told client traces (Remask device text) e (rw (sym e) (inl refl)) (refl, refl)
+serves_unknown front told client traces (EvOpen device) e = unknown front told client traces (EvOpen device) e (rw (sym e) (inl refl)) (refl, refl)
+serves_unknown front told client traces (EvRead device) e = unknown front told client traces (EvRead device) e (rw (sym e) (inl refl)) (refl, refl)
+serves_unknown front told client traces (EvClose device) e = unknown front told client traces (EvClose device) e (rw (sym e) (inl refl)) (refl, refl)
+serves_unknown front told client traces command e = absurd e
+
+-- if the device is found
+pub serves_at : (front : Front) (told told' : Option Machine) (client client' : ClientRecord) (traces traces' : List (Option Trace)) (command : Command)
+    (dev : ℕ)
+    (reply : Reply) → IsAt front (Some dev) command
+    → AnswersAlone front client (Said (Ok command)) reply → AnswersAs front (Said (Ok command)) reply
+    → IfSome told (λ m. Comes m client (on_device front m client command dev) reply told' client')
+    → Moves front client traces (Said (Ok command)) reply client' traces'
+    → Serves front told client traces (Said (Ok command)) reply told' client' traces'
+serves_at front told told' client client' traces traces' command dev reply e alone formed c moves =
+    record {
+      alone = alone;
+      formed = formed;
+      exact =
+          all_comes front told told' client client' _ (λ m. on_device front m client command dev) reply (λ m. act_at front m client (Some dev) command e) c;
+      moves = moves;
+    }
+
+-- ---- OPEN
+
+pub serves_open : (front : Front) (told told' : Option Machine) (client client' : ClientRecord) (traces traces' : List (Option Trace)) (device : List ℕ)
+    (samples : ℕ)
+    (text : List ℕ) (cyclic : Bool) (dev : ℕ) (r : Result ⊤ No)
+    → Some dev ≡ find_device front device
+    → IfSome told (λ m. Comes m client (open_at front m client dev samples text cyclic) (reply_by r) told' client')
+    → OpensBy front dev samples text cyclic client traces r client' traces'
+    → Serves front told client traces (Said (Ok (Open device samples text cyclic))) (reply_by r) told' client' traces'
+serves_open front told told' client client' traces traces' device samples text cyclic dev r e t j =
+    serves_at front told told' client client' traces traces' (Open device samples text cyclic) dev (reply_by r) e (rw (sym e) tt)
+    (settles front (Said (Ok (Open device samples text cyclic))) r refl) t (moved r j)
+  where
+    moved : (r : Result ⊤ No) → OpensBy front dev samples text cyclic client traces r client' traces'
+        → Moves front client traces (Said (Ok (Open device samples text cyclic))) (reply_by r) client' traces'
+    moved (Ok n) j = record {
+      s = record { dev = dev; number = j.2.number; mask = j.0.mask; capacity = j.0.capacity; discarded = 0 };
+      t = j.2.t;
+      named = sym e;
+      free = j.2.free;
+      wanted = j.1;
+      added = j.2.added;
+      told = j.2.told;
+      fresh = j.2.fresh;
+    }
+    moved (Err (NoErrno x)) j = j
+    moved (Err NoMem) j = j
+
+-- ---- CLOSE
+
+pub serves_close : (front : Front) (told told' : Option Machine) (client client' : ClientRecord) (traces traces' : List (Option Trace)) (device : List ℕ)
+    (dev : ℕ)
+    (r : Result ⊤ No)
+    → Some dev ≡ find_device front device
+    → IfSome told (λ m. Comes m client (close_at front m client (place_of dev client.seats)) (reply_by r) told' client')
+    → (place_of dev client.seats ≡ None → r ≡ Err (NoErrno EBADF))
+    → LeavesBy dev client traces r client' traces'
+    → Serves front told client traces (Said (Ok (Close device))) (reply_by r) told' client' traces'
+serves_close front told told' client client' traces traces' device dev r e t none j =
+    serves_at front told told' client client' traces traces' (Close device) dev (reply_by r) e
+    (rw (sym e) (seatless (place_of dev client.seats) (reply_by r) (λ n. ap reply_by (none n)))) (settles front (Said (Ok (Close device))) r refl) t (moved r j)
+  where
+    moved : (r : Result ⊤ No) → LeavesBy dev client traces r client' traces' → Moves front client traces (Said (Ok (Close device))) (reply_by r) client' traces'
+    moved (Ok n) j = record { dev = dev; i = j.0; named = sym e; at = j.1; gone = j.2; told = j.3 }
+    moved (Err (NoErrno x)) j = j
+    moved (Err NoMem) j = j
+
+-- ---- REMASK
+
+pub serves_remask : (front : Front) (told told' : Option Machine) (client client' : ClientRecord) (traces traces' : List (Option Trace)) (device text : List ℕ)
+    (dev : ℕ)
+    (r : Result ⊤ No)
+    → Some dev ≡ find_device front device
+    → IfSome told (λ m. Comes m client (remask_known front m client text dev) (reply_by r) told' client')
+    → RemasksBy front dev text client traces r client' traces'
+    → Serves front told client traces (Said (Ok (Remask device text))) (reply_by r) told' client' traces'
+serves_remask front told told' client client' traces traces' device text dev r e t j =
+    serves_at front told told' client client' traces traces' (Remask device text) dev (reply_by r) e (rw (sym e) tt)
+    (settles front (Said (Ok (Remask device text))) r refl) t (moved r j)
+  where
+    moved : (r : Result ⊤ No) → RemasksBy front dev text client traces r client' traces'
+        → Moves front client traces (Said (Ok (Remask device text))) (reply_by r) client' traces'
+    moved (Ok n) j = (dev, sym e, j)
+    moved (Err (NoErrno x)) j = j
+    moved (Err NoMem) j = j
+
+-- ---- READBUF
+
+read_is : (front : Front) (client : ClientRecord) (device : List ℕ) (asked dev : ℕ) → find_device front device ≡ Some dev
+    → is_output (kind_at front dev) ≡ false
+    → (m : Machine)
+    → act front m client (Said (Ok (ReadBuf device asked))) ≡ read_at front m client asked (place_of dev client.seats)
+unfolding act
+read_is front client device asked dev e read m =
+    ap (λ o. at_device m client (read_buffer_at front m client asked) o) e
+    ∙ ap (λ (b : Bool). where_known (not b) m client dev (read_at front m client asked (place_of dev client.seats))) read
+
+pub serves_read : (front : Front) (told told' : Option Machine) (client client' : ClientRecord) (traces traces' : List (Option Trace)) (device : List ℕ)
+    (asked dev : ℕ)
+    (reply : Reply)
+    → find_device front device ≡ Some dev → is_output (kind_at front dev) ≡ false → client' ≡ client
+    → ReadServedAt front dev asked told told' client traces traces' reply
+    → Serves front told client traces (Said (Ok (ReadBuf device asked))) reply told' client' traces'
+serves_read front told told' client client' traces traces' device asked dev reply e read same r =
+    record {
+      alone = rw (e, read) (unseated (place_of dev client.seats) r.moves);
+      formed = formed reply;
+      exact = by told r.exact;
+      moves =
+          moved reply r.whole r.moves;
+    }
+  where
+    unseated : (p : Option ℕ) → ReadsBy front asked client.seats traces p reply traces' → IfSome (at_seat p) (λ answer. IsOrShort answer reply)
+    unseated None x = inl x.0
+    unseated (Some i) x = tt
+
+    formed : (reply : Reply) → AnswersAs front (Said (Ok (ReadBuf device asked))) reply
+    formed (Refusal k) = tt
+    formed NoMemory = tt
+    formed reply = tt
+
+    moved : (reply : Reply) → IsWhole reply → ReadsBy front asked client.seats traces (place_of dev client.seats) reply traces'
+        → Moves front client traces (Said (Ok (ReadBuf device asked))) reply client' traces'
+    moved NoMemory w x = absurd w
+    moved Nothing w x = (same, rw (e, read) x)
+    moved (Number n) w x = (same, rw (e, read) x)
+    moved (Refusal k) w x = (same, rw (e, read) x)
+    moved (Line t) w x = (same, rw (e, read) x)
+    moved (Value t) w x = (same, rw (e, read) x)
+    moved (Raw t) w x = (same, rw (e, read) x)
+    moved (Block a b c d) w x = (same, rw (e, read) x)
+
+    acts : (m n : Machine) (reply : Reply) → IsWhole reply → told' ≡ Some n
+        → read_at front m client asked (place_of dev client.seats) ≡ record { reply = reply; machine = n; client = client }
+        → Comes m client (read_at front m client asked (place_of dev client.seats)) reply told' client'
+    acts m n NoMemory w t x = absurd w
+    acts m n Nothing w t x = (n, t, rw same x)
+    acts m n (Number k) w t x = (n, t, rw same x)
+    acts m n (Refusal k) w t x = (n, t, rw same x)
+    acts m n (Line k) w t x = (n, t, rw same x)
+    acts m n (Value k) w t x = (n, t, rw same x)
+    acts m n (Raw k) w t x = (n, t, rw same x)
+    acts m n (Block a b c d) w t x = (n, t, rw same x)
+
+    by : (told : Option Machine)
+        → IfSome told (λ m. (n : Machine) × (told' ≡ Some n)
+        × (read_at front m client asked (place_of dev client.seats) ≡ record { reply = reply; machine = n; client = client }))
+        → IfSome told (λ m. Acts front m client (Said (Ok (ReadBuf device asked))) reply told' client')
+    by None x = tt
+    by (Some m) x =
+        comes_acts front m client client' (Said (Ok (ReadBuf device asked))) _ reply told' (read_is front client device asked dev e read m)
+        (acts m x.0 reply r.whole x.1 x.2)
+
+unknown_read : (front : Front) (client : ClientRecord) (device : List ℕ) (asked : ℕ) → find_device front device ≡ None → (m : Machine)
+    → act front m client (Said (Ok (ReadBuf device asked))) ≡ refused ENODEV m client
+unfolding act
+unknown_read front client device asked e m = ap (λ o. at_device m client (read_buffer_at front m client asked) o) e
+
+pub no_read : (front : Front) (told : Option Machine) (client : ClientRecord) (traces : List (Option Trace)) (device : List ℕ) (asked : ℕ)
+    → find_device front device ≡ None
+    → Serves front told client traces (Said (Ok (ReadBuf device asked))) (Refusal ENODEV) told client traces
+no_read front told client traces device asked e =
+    record {
+      alone = rw e (inl refl);
+      formed = tt;
+      exact = all_refused front told client _ ENODEV (unknown_read front client device asked e);
+      moves =
+          (refl, rw e (refl, refl));
+    }
+
+-- memory ran out before anything had changed
+short_read : (front : Front) (told told' : Option Machine) (client client' : ClientRecord) (traces traces' : List (Option Trace)) (device : List ℕ) (asked : ℕ)
+    → told' ≡ told → client' ≡ client → traces' ≡ traces → Serves front told client traces (Said (Ok (ReadBuf device asked))) NoMemory told' client' traces'
+short_read front told told' client client' traces traces' device asked t d s =
+    record { alone = short_reader front client.seats (find_device front device); formed = tt; exact = by told t; moves = (d, s) }
+  where
+    by : (told : Option Machine) → told' ≡ told → IfSome told (λ m. (told' ≡ Some m) × (client' ≡ client))
+    by None t = tt
+    by (Some m) t = (t, d)
+
+-- ---- the end of an item
+
+pub finished : (manner : Manner) (front : Front) (told told' : Option Machine) (client : ClientRecord) (traces : List (Option Trace)) (item : Item)
+    (client' : ClientRecord) (traces' : List (Option Trace))
+    (before after : List ℕ) (reply : Reply) (r : Result Progress Mem)
+    → Serves front told client traces item reply told' client' traces'
+    → IfOk r (λ p. p ≡ Done) → OnOk r (after ≡ before ++ text_of reply) → OnOk r (IsAllowed manner reply) → IsAnswerOf item manner reply
+    → IfOk r (Performs manner front told told' client traces item client' traces' before after)
+finished manner front told told' client traces item client' traces' before after reply (Ok Done) s d t a x = (reply, t, a, x, s)
+finished manner front told told' client traces item client' traces' before after reply (Ok (Waits dev)) s d t a x = absurd (cc)
+finished manner front told told' client traces item client' traces' before after reply (Err fault) s d t a x = tt
+
+pub allowed : (manner : Manner) (reply : Reply) → IsWhole reply → IsAllowed manner reply
+allowed manner NoMemory w = absurd w
+allowed Script Nothing w = tt
+allowed Script (Number n) w = tt
+allowed Script (Refusal e) w = tt
+allowed Script (Line t) w = tt
+allowed Script (Value t) w = tt
+allowed Script (Raw t) w = tt
+allowed Script (Block a b c d) w = tt
+allowed Server Nothing w = tt
+allowed Server (Number n) w = tt
+allowed Server (Refusal e) w = tt
+allowed Server (Line t) w = tt
+allowed Server (Value t) w = tt
+allowed Server (Raw t) w = tt
+allowed Server (Block a b c d) w = tt
+
+pub found_answer : (device : List ℕ) (asked : ℕ) (manner : Manner) (reply : Reply) → IsFound reply → IsAnswerOf (Said (Ok (ReadBuf device asked))) manner reply
+found_answer device asked Script reply f = tt
+found_answer device asked Server (Refusal EAGAIN) f = absurd f
+found_answer device asked Server (Refusal e) f = tt
+found_answer device asked Server Nothing f = tt
+found_answer device asked Server (Number n) f = tt
+found_answer device asked Server (Line t) f = tt
+found_answer device asked Server (Value t) f = tt
+found_answer device asked Server (Raw t) f = tt
+found_answer device asked Server (Block a b c d) f = tt
+found_answer device asked Server NoMemory f = tt
+
+pub unread_answer : (device : List ℕ) (asked : ℕ) (manner : Manner) (e : Errno) → (e ≡ ENODEV) ⊎ (e ≡ ENOSYS)
+    → IsAnswerOf (Said (Ok (ReadBuf device asked))) manner (Refusal e)
+unread_answer device asked manner e (inl is) = rw is (found_answer device asked manner (Refusal ENODEV) tt)
+unread_answer device asked manner e (inr is) = rw is (found_answer device asked manner (Refusal ENOSYS) tt)
+
+answered : (manner : Manner) (front : Front) (told told' : Option Machine) (client client' : ClientRecord) (traces traces' : List (Option Trace))
+    (device : List ℕ)
+    (asked dev : ℕ)
+    (before mid after : List ℕ) (took : Result Took Mem) (p : Progress)
+    → find_device front device ≡ Some dev → is_output (kind_at front dev) ≡ false → client' ≡ client
+    → ReadAt front dev asked told told' client traces traces' before mid took
+    → AnswersRead manner dev took mid after p
+    → Performs manner front told told' client traces (Said (Ok (ReadBuf device asked))) client' traces' before after p
+answered manner front told told' client client' traces traces' device asked dev before mid after (Ok Scan) p e read same r a =
+    rw a.1 (
+      r.0,
+      a.0 ∙ r.1,
+      allowed manner r.0 r.3.whole,
+      found_answer device asked manner r.0 r.2,
+      serves_read front told told' client client' traces traces' device
+          asked dev r.0 e read same r.3,
+    )
+answered manner front told told' client client' traces traces' device asked dev before mid after (Ok Gone) p e read same r a =
+    rw a.1 (
+      Refusal ENODEV,
+      a.0
+          ∙ ap (λ (xs : List ℕ). xs ++ text_of (Refusal ENODEV)) r.0,
+      allowed manner (Refusal ENODEV) tt,
+      found_answer device asked manner (Refusal ENODEV) tt,
+      serves_read front told told' client client' traces traces' device asked dev _ e read same r.1,
+    )
+answered Server front told told' client client' traces traces' device asked dev before mid after (Ok Empty) p e read same r a =
+    rw a.1 (a.0 ∙ r.0, refl, e, serves_read front told told' client client' traces traces' device asked dev _ e read same r.1)
+answered Script front told told' client client' traces traces' device asked dev before mid after (Ok Empty) p e read same r a =
+    rw a.1 (
+      Refusal EAGAIN,
+      a.0
+          ∙ ap (λ (xs : List ℕ). xs ++ text_of (Refusal EAGAIN)) r.0,
+      tt,
+      tt,
+      serves_read front told told' client client' traces traces' device asked dev _ e read same r.1,
+    )
+answered manner front told told' client client' traces traces' device asked dev before mid after (Err fault) p e read same r a =
+    rw a.1 (
+      NoMemory,
+      a.0 ∙ ap (λ (xs : List ℕ). xs ++ text_of NoMemory) r.0,
+      a.2,
+      found_answer device asked manner NoMemory tt,
+      short_read front told told'
+          client client' traces traces' device asked r.1 same r.2,
+    )
+
+pub answers : (manner : Manner) (front : Front) (told told' : Option Machine) (client client' : ClientRecord) (traces traces' : List (Option Trace))
+    (device : List ℕ)
+    (asked dev : ℕ)
+    (before mid after : List ℕ) (took : Result Took Mem) (r : Result Progress Mem)
+    → find_device front device ≡ Some dev → is_output (kind_at front dev) ≡ false → client' ≡ client
+    → ReadAt front dev asked told told' client traces traces' before mid took
+    → IfOk r (AnswersRead manner dev took mid after)
+    → IfOk r (Performs manner front told told' client traces (Said (Ok (ReadBuf device asked))) client' traces' before after)
+answers manner front told told' client client' traces traces' device asked dev before mid after took (Ok p) e read same r a =
+    answered manner front told told' client client' traces traces' device asked dev before mid after took p e read same r a
+answers manner front told told' client client' traces traces' device asked dev before mid after took (Err fault) e read same r a = tt
+
+-- ---- SETTRIG
+
+-- the call of a device that is plugged and has a trigger of its own answers the rest
+retriggers : (m : Machine) (client : ClientRecord) (dev : ℕ) (to : Option ℕ) (alone : Bool) → is_plugged m dev ≡ true
+    → is_empty (station_at m dev).members ≡ alone
+    → retriggered m client dev (ensure alone EBUSY >>= (λ free. Ok to)) ≡ settled client (set_trigger_of m dev to)
+unfolding set_trigger_of station_at is_plugged
+retriggers m client dev to alone plugged is =
+    sym (ap (λ (p : Bool). answered (ensure p ENODEV >>= (λ here. ensure (is_empty (station_at m dev).members) EBUSY))) plugged
+    ∙ ap (λ (b : Bool). answered (ensure b EBUSY)) is ∙ same alone)
+  where
+    answered : Result ⊤ Errno → Acted
+    answered r = settled client (unless (with_site (λ site. record site { trigger = to })) dev m r)
+
+    same : (b : Bool) → answered (ensure b EBUSY) ≡ retriggered m client dev (ensure b EBUSY >>= (λ free. Ok to))
+    same true = refl
+    same false = refl
+
+-- a call whose answer is the command's
+comes_by : (m : Machine) (client : ClientRecord) (acted : Acted) (o : CallResult ⊤) (r : Result ⊤ No) (told' : Option Machine) → acted ≡ settled client o
+    → Answers o m r told' → Comes m client acted (reply_by r) told' client
+comes_by m client acted o (Ok done) told' is a = (o.machine, a.1, is ∙ ap (altered (λ d. d) client o.machine) a.0)
+comes_by m client acted o (Err (NoErrno e)) told' is a = (o.machine, a.1, is ∙ ap (altered (λ d. d) client o.machine) a.0)
+comes_by m client acted o (Err NoMem) told' is a = (a, refl)
+
+pub set_found : (front : Front) (told told' : Option Machine) (client : ClientRecord) (name : Option (List ℕ)) (dev : ℕ) (to : Option ℕ) (p : Bool)
+    (r : Result ⊤ No)
+    → IfSome told (λ m. p ≡ is_plugged m dev) → p ≡ true → is_average (kind_at front dev) ≡ false → trigger_named front name ≡ Ok to
+    → IfSome told (λ m. Answers (set_trigger_of m dev to) m r told')
+    → IfSome told (λ m. Comes m client (set_trigger_at front m client name dev) (reply_by r) told' client)
+set_found front None told' client name dev to p r plugged here own named answers = tt
+set_found front (Some m) told' client name dev to p r plugged here own named answers =
+    let at = sym plugged ∙ here in
+    comes_by m client (set_trigger_at front m client name dev) (set_trigger_of m dev to) r told'
+    (rw (own, named, at) (retriggers m client dev to (is_empty (station_at m dev).members) at refl)) answers
+
+pub serves_set_trigger : (front : Front) (told told' : Option Machine) (client : ClientRecord) (traces : List (Option Trace)) (device : List ℕ)
+    (name : Option (List ℕ)) (dev : ℕ) (r : Result ⊤ No)
+    → Some dev ≡ find_device front device
+    → IfSome told (λ m. Comes m client (set_trigger_at front m client name dev) (reply_by r) told' client)
+    → Serves front told client traces (Said (Ok (SetTrig device name))) (reply_by r) told' client traces
+serves_set_trigger front told told' client traces device name dev r e c =
+    serves_at front told told' client client traces traces (SetTrig device name) dev (reply_by r) e (rw (sym e) tt)
+    (settles front (Said (Ok (SetTrig device name))) r refl) c (moved r)
+  where
+    moved : (r : Result ⊤ No) → Moves front client traces (Said (Ok (SetTrig device name))) (reply_by r) client traces
+    moved (Ok done) = (refl, refl)
+    moved (Err (NoErrno e)) = (refl, refl)
+    moved (Err NoMem) = (refl, refl)
+
+-- ---- SET
+
+pub serves_set_buffers : (front : Front) (told : Option Machine) (client client' : ClientRecord) (traces traces' : List (Option Trace)) (device : List ℕ)
+    (n dev : ℕ)
+    (r : Result ⊤ No)
+    → Some dev ≡ find_device front device
+    → IfSome told (λ m. Comes m client (set_buffers_at m client n dev) (reply_by r) told client')
+    → client' ≡ client_by (with_count dev n) client r → traces' ≡ traces
+    → Serves front told client traces (Said (Ok (SetBuffers device n))) (reply_by r) told client' traces'
+serves_set_buffers front told client client' traces traces' device n dev r e c a t =
+    serves_at front told told client client' traces traces' (SetBuffers device n) dev (reply_by r) e (rw (sym e) tt)
+    (settles front (Said (Ok (SetBuffers device n))) r refl) c (moved r a)
+  where
+    moved : (r : Result ⊤ No) → client' ≡ client_by (with_count dev n) client r
+        → Moves front client traces (Said (Ok (SetBuffers device n))) (reply_by r) client' traces'
+    moved (Ok done) a = record { dev = dev; named = sym e; made = a; told = t }
+    moved (Err (NoErrno x)) a = (a, t)
+    moved (Err NoMem) a = (a, t)
+
+-- ---- GETTRIG
+
+pub serves_get_trigger : (front : Front) (told : Option Machine) (client : ClientRecord) (traces : List (Option Trace)) (device : List ℕ) (dev : ℕ)
+    (reply : Reply)
+    → Some dev ≡ find_device front device
+    → IfSome told (λ m. Comes m client (get_trigger_at front m client dev) reply told client) → AnswersAs front (Said (Ok (GetTrig device))) reply
+    → Serves front told client traces (Said (Ok (GetTrig device))) reply told client traces
+serves_get_trigger front told client traces device dev reply e c formed =
+    serves_at front told told client client traces traces (GetTrig device) dev reply e (rw (sym e) tt) formed c (refl, refl)
+
+-- ---- EVOPEN
+
+pub serves_ev_open : (front : Front) (told told' : Option Machine) (client client' : ClientRecord) (traces traces' : List (Option Trace)) (device : List ℕ)
+    (dev : ℕ)
+    (r : Result ⊤ No)
+    → Some dev ≡ find_device front device
+    → IfSome told (λ m. Comes m client (ev_open_known front m client dev) (reply_by r) told' client')
+    → client' ≡ client_by (with_holding dev) client r → traces' ≡ traces
+    → Serves front told client traces (Said (Ok (EvOpen device))) (reply_by r) told' client' traces'
+serves_ev_open front told told' client client' traces traces' device dev r e c a t =
+    serves_at front told told' client client' traces traces' (EvOpen device) dev (reply_by r) e (rw (sym e) tt)
+    (settles front (Said (Ok (EvOpen device))) r refl) c
+    (moved r a)
+  where
+    moved : (r : Result ⊤ No) → client' ≡ client_by (with_holding dev) client r
+        → Moves front client traces (Said (Ok (EvOpen device))) (reply_by r) client' traces'
+    moved (Ok done) a = record { dev = dev; named = sym e; made = a; told = t }
+    moved (Err (NoErrno x)) a = (a, t)
+    moved (Err NoMem) a = (a, t)
+
+-- ---- EVCLOSE
+
+pub serves_ev_close : (front : Front) (told told' : Option Machine) (client client' : ClientRecord) (traces traces' : List (Option Trace)) (device : List ℕ)
+    (dev : ℕ)
+    (r : Result ⊤ No)
+    → Some dev ≡ find_device front device
+    → IfSome told (λ m. Comes m client (ev_close_known front m client dev) (reply_by r) told' client')
+    → client' ≡ client_by (without_holding dev) client r → traces' ≡ traces
+    → Serves front told client traces (Said (Ok (EvClose device))) (reply_by r) told' client' traces'
+serves_ev_close front told told' client client' traces traces' device dev r e c a t =
+    serves_at front told told' client client' traces traces' (EvClose device) dev (reply_by r) e (rw (sym e) tt)
+    (settles front (Said (Ok (EvClose device))) r refl) c
+    (moved r a)
+  where
+    moved : (r : Result ⊤ No) → client' ≡ client_by (without_holding dev) client r
+        → Moves front client traces (Said (Ok (EvClose device))) (reply_by r) client' traces'
+    moved (Ok done) a = record { dev = dev; named = sym e; made = a; told = t }
+    moved (Err (NoErrno x)) a = (a, t)
+    moved (Err NoMem) a = (a, t)
+
+-- ---- EVREAD
+
+pub serves_ev_read : (front : Front) (told told' : Option Machine) (client : ClientRecord) (traces : List (Option Trace)) (device : List ℕ) (dev : ℕ)
+    (reply : Reply)
+    → Some dev ≡ find_device front device
+    → IfSome told (λ m. Comes m client (ev_read_known front m client dev) reply told' client) → AnswersAs front (Said (Ok (EvRead device))) reply
+    → Serves front told client traces (Said (Ok (EvRead device))) reply told' client traces
+serves_ev_read front told told' client traces device dev reply e c formed =
+    serves_at front told told' client client traces traces (EvRead device) dev reply e (rw (sym e) tt) formed c (refl, refl)
+
+-- ---- READBUF of an output device, which is refused
+
+output_is : (front : Front) (client : ClientRecord) (device : List ℕ) (asked dev : ℕ) → find_device front device ≡ Some dev
+    → is_output (kind_at front dev) ≡ true
+    → (m : Machine)
+    → act front m client (Said (Ok (ReadBuf device asked))) ≡ where_known false m client dev (read_at front m client asked (place_of dev client.seats))
+unfolding act
+output_is front client device asked dev e output m =
+    ap (λ o. at_device m client (read_buffer_at front m client asked) o) e
+    ∙ ap (λ (b : Bool). where_known (not b) m client dev (read_at front m client asked (place_of dev client.seats))) output
+
+pub serves_unread : (front : Front) (told : Option Machine) (client : ClientRecord) (traces : List (Option Trace)) (device : List ℕ) (asked dev : ℕ) (e : Errno)
+    → find_device front device ≡ Some dev → is_output (kind_at front dev) ≡ true → (e ≡ ENODEV) ⊎ (e ≡ ENOSYS)
+    → ((d : ClientRecord) (a : Acted) → IfSome told (λ m. Comes m d (where_known false m d dev a) (Refusal e) told d))
+    → Serves front told client traces (Said (Ok (ReadBuf device asked))) (Refusal e) told client traces
+serves_unread front told client traces device asked dev e named output one u = record {
+  alone = rw (named, output) tt;
+  formed = tt;
+  exact = by told u;
+  moves = (refl, rw (named, output) (either one, refl));
+}
+  where
+    either : (e ≡ ENODEV) ⊎ (e ≡ ENOSYS) → (Refusal e ≡ Refusal ENODEV) ⊎ (Refusal e ≡ Refusal ENOSYS)
+    either (inl x) = inl (ap Refusal x)
+    either (inr x) = inr (ap Refusal x)
+
+    by : (told : Option Machine) → ((d : ClientRecord) (a : Acted) → IfSome told (λ m. Comes m d (where_known false m d dev a) (Refusal e) told d))
+        → IfSome told (λ m. Acts front m client (Said (Ok (ReadBuf device asked))) (Refusal e) told client)
+    by None u = tt
+    by (Some m) u =
+        comes_acts front m client client (Said (Ok (ReadBuf device asked))) _ (Refusal e) (Some m) (output_is front client device asked dev named output m)
+        (u client (read_at front m client asked (place_of dev client.seats)))
+
+-- ---- WRITEBUF
+
+streamed_at : (front : Front) (m : Machine) (client : ClientRecord) (o : Option ℕ) (device payload : List ℕ) → o ≡ find_device front device
+    → act front m client (Streamed device payload) ≡ at_device m client (write_buffer_at front m client payload) o
+unfolding act
+streamed_at front m client o device payload e = ap (λ x. at_device m client (write_buffer_at front m client payload) x) (sym e)
+
+pub serves_streamed : (front : Front) (told told' : Option Machine) (client client' : ClientRecord) (traces traces' : List (Option Trace))
+    (device payload : List ℕ)
+    (dev : ℕ) (r : Result ℕ No)
+    → Some dev ≡ find_device front device
+    → IfSome told (λ m. Comes m client (write_buffer_at front m client payload dev) (taken_by r) told' client)
+    → client' ≡ client → traces' ≡ traces → IfOk r (λ taken. taken ≤ length payload)
+    → Serves front told client traces (Streamed device payload) (taken_by r) told' client' traces'
+serves_streamed front told told' client client' traces traces' device payload dev r e c d t within = record {
+  alone = rw (sym e) tt;
+  formed = formed r within;
+  exact =
+      rw d (all_comes front told told' client client _ (λ m. write_buffer_at front m client payload dev) (taken_by r)
+      (λ m. streamed_at front m client (Some dev) device payload e) c);
+  moves = moved r;
+}
+  where
+    formed : (r : Result ℕ No) → IfOk r (λ taken. taken ≤ length payload) → AnswersAs front (Streamed device payload) (taken_by r)
+    formed (Ok taken) within = (taken, within, refl)
+    formed (Err (NoErrno e)) within = tt
+    formed (Err NoMem) within = tt
+
+    moved : (r : Result ℕ No) → Moves front client traces (Streamed device payload) (taken_by r) client' traces'
+    moved (Ok taken) = (d, t)
+    moved (Err (NoErrno e)) = (d, t)
+    moved (Err NoMem) = (d, t)
+
+pub serves_unstreamed : (front : Front) (told : Option Machine) (client : ClientRecord) (traces : List (Option Trace)) (device payload : List ℕ)
+    → None ≡ find_device front device
+    → Serves front told client traces (Streamed device payload) (Refusal ENODEV) told client traces
+serves_unstreamed front told client traces device payload e = record {
+  alone = rw (sym e) (inl refl);
+  formed = tt;
+  exact = all_refused front told client _ ENODEV (λ m. streamed_at front m client None device payload e);
+  moves = (refl, refl);
+}
+
+-- ---- the room for an answer
+
+unchanged : (before after : List ℕ) (capacity capacity' : ℕ) → after ≡ before → capacity ≤ capacity' → length before + SHORT_ANSWER ≤ capacity
+    → length after + SHORT_ANSWER ≤ capacity'
+unchanged before after capacity capacity' same grows room =
+    let long : length after ≡ length before = ap (λ (xs : List ℕ). length xs) same in
+    omega (arith, long, grows, room)
+
+-- after a take there is room for the rest of READBUF's answer, if there was before
+pub room_after : (front : Front) (dev asked : ℕ) (told told' : Option Machine) (client : ClientRecord) (traces traces' : List (Option Trace))
+    (before after : List ℕ)
+    (capacity capacity' : ℕ) (took : Result Took Mem)
+    → ReadAt front dev asked told told' client traces traces' before after took → capacity ≤ capacity' → length before + SHORT_ANSWER ≤ capacity
+    → HasRoomAfter took after capacity'
+room_after front dev asked told told' client traces traces' before after capacity capacity' (Ok Scan) read grows room = tt
+room_after front dev asked told told' client traces traces' before after capacity capacity' (Ok Empty) read grows room =
+    unchanged before after capacity capacity' read.0 grows room
+room_after front dev asked told told' client traces traces' before after capacity capacity' (Ok Gone) read grows room =
+    unchanged before after capacity capacity' read.0 grows room
+room_after front dev asked told told' client traces traces' before after capacity capacity' (Err mem) read grows room =
+    unchanged before after capacity capacity' read.0 grows room

@@ -1,0 +1,13 @@
+pub mod Kinds
+pub mod No
+pub mod Target
+pub mod Attributes
+pub mod Seat
+pub mod Reading
+pub mod Client
+pub mod Acts
+pub mod Moves
+pub mod Performs
+pub mod Wanted
+pub mod Answers
+pub mod Targets
