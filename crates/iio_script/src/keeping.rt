@@ -10,7 +10,7 @@ ghost use Rattle.iio_history.specs.Event.{Event};
 ghost use Rattle.iio_history.specs.Input.{input_limit, is_overlong, scanned_lines};
 ghost use Rattle.iio_history.specs.Outcome.{last_ending};
 ghost use Rattle.iio_history.specs.Registry.{Setup};
-ghost use Rattle.iio_system.specs.Bench.{front_of};
+ghost use Rattle.iio_bench.specs.Bench.{front_of};
 ghost use Rattle.iio_system.specs.Standing.{IsTaken, StandsFor, names_by, names_with};
 ghost use Rattle.iio_system.specs.Step.{IsValid, cost_of, step_view};
 ghost use Rattle.iio_worlds.specs.Bystanders.{only_bystanders};

@@ -11,7 +11,7 @@ ghost use Rattle.iio_history.specs.Outcome.{last_ending, outcome_of, outcome_of_
 ghost use Rattle.iio_history.specs.Registry.{Setup};
 ghost use Rattle.iio_history.specs.Script.{keeps_names, script_from};
 ghost use Rattle.iio_history.specs.Transcript.{with_steps};
-ghost use Rattle.iio_system.specs.Bench.{front_of};
+ghost use Rattle.iio_bench.specs.Bench.{front_of};
 ghost use Rattle.iio_system.specs.Standing.{StandsFor, names_by};
 ghost use Rattle.iio_system.specs.Step.{step_view};
 ghost use Rattle.iio_script.specs.Ends.{HasStatus, Sends, ShowsFaults, Writes};

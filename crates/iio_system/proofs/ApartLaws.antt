@@ -6,10 +6,10 @@ use Rattle.std.proofs.lemmas.Bool.{cases_lt}
 use lib.ListN.{get_or-append}
 use lib.Seq.{get_or-append_seam}
 use Rattle.iio_history.proofs.BenchLists.{name_same}
-use Rattle.iio_system.specs.declared.connection.Connection.{Connection}
-use Rattle.iio_system.specs.Feeding.{AreApart}
+use Rattle.iio_bench.specs.declared.connection.Connection.{Connection}
+use Rattle.iio_system.specs.Connections.{AreApart}
 use Rattle.iio_system.specs.Standing.{name_by}
-use Rattle.iio_system.proofs.IioLemmas.{position_at}
+use Rattle.iio_bench.proofs.IioLemmas.{position_at}
 use Rattle.iio_system.proofs.NameLaws.{is_named, length_names, none_named}
 
 module _ {S : Type 0} where

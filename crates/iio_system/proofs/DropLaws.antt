@@ -20,8 +20,8 @@ use Rattle.iio_history.proofs.BenchEnds.{ends_are_left}
 use Rattle.iio_history.proofs.BenchKept.{bench_kept}
 use Rattle.iio_history.proofs.BenchLists.{name_same}
 use Rattle.iio_history.proofs.BenchOthers.{absent_is_client}
-use Rattle.iio_system.specs.declared.connection.Connection.{Connection}
-use Rattle.iio_system.specs.Feeding.{left_by}
+use Rattle.iio_bench.specs.declared.connection.Connection.{Connection}
+use Rattle.iio_bench.specs.Feeding.{left_by}
 use Rattle.iio_history.specs.Words.{dropped_word}
 use Rattle.iio_system.specs.System.{AreLines, IsServed, Stands}
 use Rattle.iio_system.proofs.FedLaws.{user_is, user_of_line}

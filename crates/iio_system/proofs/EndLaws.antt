@@ -12,7 +12,7 @@ use Rattle.iio_core.specs.Front.{Front}
 use Rattle.iio_core.specs.Machine.{Machine}
 use Rattle.iiod_session.specs.Run.{client_after, machine_after}
 use Rattle.iio_text.specs.declared.errors.Errno.{Errno}
-use Rattle.iio_system.specs.Feeding.{is_at_end}
+use Rattle.iio_bench.specs.Feeding.{is_at_end}
 use Rattle.iio_system.specs.System.{IsBare}
 
 -- whether an item ends its connection

@@ -22,11 +22,11 @@ use Rattle.iio_history.proofs.BenchFeeds.{feeds_are_acts}
 use Rattle.iio_history.proofs.BenchKept.{arrived_is_there, bench_kept, room_after}
 use Rattle.iio_history.proofs.BenchLists.{name_itself, name_same}
 use Rattle.iio_history.proofs.BenchOthers.{arrival_is_nothing, clients_are_kept}
-use Rattle.iio_system.specs.declared.connection.Connection.{Connection}
-use Rattle.iio_system.specs.Connection.{HasHeard, IsHearing, IsSessionOf}
+use Rattle.iio_bench.specs.declared.connection.Connection.{Connection}
+use Rattle.iio_bench.specs.Connection.{HasHeard, IsHearing, IsSessionOf}
 use Rattle.iio_system.specs.System.{IsBare, IsLive, IsServed, Stands}
 use Rattle.iio_system.proofs.EndLaws.{seat_state_after, bytes_agree, has_end}
-use Rattle.iio_system.specs.Feeding.{IsOwning, is_at_end}
+use Rattle.iio_bench.specs.Feeding.{IsOwning, is_at_end}
 use Rattle.iio_system.proofs.LineLaws.{OthersAre, others_after_items, others_are, others_arrived}
 use Rattle.iio_system.proofs.OwnLaws.{line_found, line_mapped, own_items, rejoined, with_session}
 

@@ -19,13 +19,13 @@ use Rattle.iio_history.specs.Transcript.{Feed, begun_by, closed_line, events_of_
 use Rattle.iio_history.specs.Bench.{Every, is_in, name_of}
 use Rattle.iio_history.specs.BenchLaw.{CanJoinMore, heard}
 use Rattle.iio_history.proofs.BenchLists.{name_itself}
-use Rattle.iio_system.specs.declared.connection.Connection.{Connection}
-use Rattle.iio_system.specs.Connection.{IsHearing}
-use Rattle.iio_system.specs.Feeding.{Feeds, HasFed, IsOwning, is_at_end}
+use Rattle.iio_bench.specs.declared.connection.Connection.{Connection}
+use Rattle.iio_bench.specs.Connection.{IsHearing}
+use Rattle.iio_bench.specs.Feeding.{Feeds, HasFed, IsOwning, is_at_end}
 use Rattle.iio_system.specs.System.{IsServed, Stands}
 use Rattle.iio_system.proofs.FedLaws.{HasArrived, begun_line, ended_heard, fed_lines, fed_state, has_arrived, has_nothing, is_hearing, live_user, stands_fed}
 use Rattle.iio_system.proofs.ItemLemmas.{items_few, room_less}
-use Rattle.iio_system.proofs.ListLemmas.{set_same}
+use Rattle.iio_bench.proofs.ListLemmas.{set_same}
 use Rattle.iio_system.proofs.NameLaws.{is_named, line_at, no_line}
 use Rattle.iio_system.proofs.NewLaws.{new_arrived, new_begun, new_hearing, new_live}
 use Rattle.iio_system.proofs.OwnLaws.{with_session}

@@ -22,21 +22,21 @@ use Rattle.iio_history.specs.Played.{state_after, step_lines, steps, texts}
 use Rattle.iio_history.specs.Transcript.{Fire, event_text, poll_entries, printed}
 use Rattle.iio_history.specs.Bench.{machine_of}
 use Rattle.iio_history.proofs.BenchMoves.{poll_is}
-use Rattle.iio_system.specs.declared.bench.Bench.{Bench}
-use Rattle.iio_system.specs.declared.connection.Connection.{Connection}
+use Rattle.iio_bench.specs.declared.bench.Bench.{Bench}
+use Rattle.iio_bench.specs.declared.connection.Connection.{Connection}
 use Rattle.iio_kinds.specs.declared.seat.Seat.{Seat}
-use Rattle.iio_system.specs.Bench.{front_of as bench_front, machine_of as bench_machine, triggers_of}
+use Rattle.iio_bench.specs.Bench.{front_of as bench_front, machine_of as bench_machine, triggers_of}
 use Rattle.iio_core.specs.declared.became.Became.{Became}
 use Rattle.iio_kinds.specs.Handling.{IsRoom}
 use Rattle.iio_history.specs.Words.{became_word, polled_words}
 use Rattle.iio_system.specs.Moves.{CanGoOn, HandlesAll, HandlesOne, InOrder, Plays, handling_of, handlings}
 use Rattle.iio_kinds.specs.Places.{trigger_of}
-use Rattle.iio_system.specs.Seat.{seen_of}
+use Rattle.iio_bench.specs.Seat.{seen_of}
 use Rattle.iio_system.specs.Standing.{CanCapture, Holds, RiseBy}
 use Rattle.iio_kinds.specs.Station.{any_front, any_station}
 use Rattle.iio_system.specs.System.{AreLines}
-use Rattle.iio_system.proofs.ListLemmas.{length_map_is, filter_none}
-use Rattle.iio_system.proofs.GatherLemmas.{nothing_handled}
+use Rattle.iio_bench.proofs.ListLemmas.{length_map_is, filter_none}
+use Rattle.iio_bench.proofs.GatherLemmas.{nothing_handled}
 use Rattle.iio_system.proofs.MoveLaws.{handle_holds, handle_line, machine_told, poll_holds, poll_line}
 
 -- ---- one handling

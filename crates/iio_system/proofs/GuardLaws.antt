@@ -17,8 +17,8 @@ use Rattle.iio_history.specs.Transcript.{Feed, Drop, begun_by}
 use Rattle.iio_history.specs.Bench.{AreDistinct, Every, IsClientOf, front_of, is_in, name_of, names_of, seat_at}
 use Rattle.iio_worlds.specs.Bystanders.{may_say}
 use Rattle.iio_worlds.specs.Stance.{ClientsDecide, Opens, by_number, client_there, clients_but, has_seat, item_meets, items_meet, may_part, none_seated, one_seated, opens_by, opens_of, own_has, stance_of, step_meets}
-use Rattle.iio_system.specs.declared.connection.Connection.{Connection}
-use Rattle.iio_system.specs.Guard.{client_named, clients_besides, own_input, with_client}
+use Rattle.iio_bench.specs.declared.connection.Connection.{Connection}
+use Rattle.iio_bench.specs.Guard.{client_named, clients_besides, own_input, with_client}
 use Rattle.iio_system.specs.System.{AreLines, IsServed, Stands}
 
 -- ---- questions about what is open

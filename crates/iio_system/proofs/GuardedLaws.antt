@@ -16,19 +16,19 @@ use Rattle.iio_history.specs.Bench.{Every}
 use Rattle.iio_history.specs.BenchLaw.{CanJoinMore}
 use Rattle.iio_worlds.specs.Bystanders.{only_bystanders}
 use Rattle.iio_worlds.specs.Stance.{ClientsDecide, StepDecides, none_seated, step_meets}
-use Rattle.iio_system.specs.declared.bench.Bench.{Bench}
-use Rattle.iio_system.specs.declared.connection.Connection.{Connection}
+use Rattle.iio_bench.specs.declared.bench.Bench.{Bench}
+use Rattle.iio_bench.specs.declared.connection.Connection.{Connection}
 use Rattle.iio_kinds.specs.declared.seat.Seat.{Seat}
 use Rattle.iio_system.specs.declared.step.Step.{Step as CodeStep}
 use Rattle.iio_system.specs.declared.step.Step.TheVariants as code
 use Rattle.iio_system.specs.declared.system.System.{System}
-use Rattle.iio_system.specs.Bench.{front_of, machine_of}
-use Rattle.iio_system.specs.Guard.{MeetsBeside, client_named, clients_besides}
-use Rattle.iio_system.specs.Seat.{seen_of}
+use Rattle.iio_bench.specs.Bench.{front_of, machine_of}
+use Rattle.iio_bench.specs.Guard.{MeetsBeside, client_named, clients_besides}
+use Rattle.iio_bench.specs.Seat.{seen_of}
 use Rattle.iio_system.specs.Standing.{Holds, IsNew, Meets, MeetsFeed, MeetsStep, StandsFor}
 use Rattle.iio_system.specs.Step.{cost_of, step_view}
 use Rattle.iio_system.specs.System.{IsServed}
-use Rattle.iio_system.proofs.BesideLaws.{besides_between, named_between}
+use Rattle.iio_bench.proofs.BesideLaws.{besides_between, named_between}
 use Rattle.iio_system.proofs.FedLaws.{begun_line, is_hearing, live_user}
 use Rattle.iio_system.proofs.FeedLaws.{line_there}
 use Rattle.iio_system.proofs.GuardLaws.{meets_ended, meets_lost, meets_those}

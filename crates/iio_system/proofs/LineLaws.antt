@@ -15,7 +15,7 @@ use Rattle.iio_history.specs.Bench.{Every, IsClientOf, is_in, name_of, names_of}
 use Rattle.iio_history.specs.BenchLaw.{IsOthers, heard}
 use Rattle.iio_history.proofs.BenchLists.{name_itself, name_same}
 use Rattle.iio_history.proofs.BenchOthers.{clients_are_kept}
-use Rattle.iio_system.specs.declared.connection.Connection.{Connection}
+use Rattle.iio_bench.specs.declared.connection.Connection.{Connection}
 use Rattle.iio_system.specs.System.{AreLines, IsServed}
 
 or_false : (b : Bool) → (b || false) ≡ b

@@ -31,21 +31,21 @@ use Rattle.iio_history.specs.BenchMoves.{IsMove, entry_word, moved_text, next_by
 use Rattle.iio_history.proofs.BenchKept.{bench_kept}
 use Rattle.iio_history.proofs.BenchMoves.{clock_is, handling_is, look_is, moves_print, poll_is, unplugging_is}
 use Rattle.iio_history.proofs.BenchOthers.{clients_are_kept}
-use Rattle.iio_system.specs.declared.bench.Bench.{Bench}
-use Rattle.iio_system.specs.declared.connection.Connection.{Connection}
+use Rattle.iio_bench.specs.declared.bench.Bench.{Bench}
+use Rattle.iio_bench.specs.declared.connection.Connection.{Connection}
 use Rattle.iio_kinds.specs.declared.seat.Seat.{Seat}
-use Rattle.iio_system.specs.Bench.{front_of as bench_front, machine_of as bench_machine}
+use Rattle.iio_bench.specs.Bench.{front_of as bench_front, machine_of as bench_machine}
 use Rattle.iio_core.specs.declared.became.Became.{Became}
 use Rattle.iio_core.specs.declared.became.Became.TheVariants.{Asked, Gave}
 use Rattle.iio_core.specs.declared.became.Gave.TheVariants as gave
 use Rattle.iio_kinds.specs.Handling.{IsRoom, counted, is_last}
 use Rattle.iio_history.specs.Words.{became_word, polled_words, sensed_words, unplugged_word}
-use Rattle.iio_system.specs.Seat.{seen_of}
+use Rattle.iio_bench.specs.Seat.{seen_of}
 use Rattle.iio_system.specs.Standing.{CanCapture, Holds, Makes, RiseBy}
 use Rattle.iio_kinds.specs.Station.{any_front, any_station}
 use Rattle.iio_system.specs.System.{AreLines}
 use Rattle.iio_system.proofs.LineLaws.{SameLine, every_line_there, served_moves}
-use Rattle.iio_system.proofs.ListLemmas.{length_map_is}
+use Rattle.iio_bench.proofs.ListLemmas.{length_map_is}
 
 -- ---- events that are no connection's
 

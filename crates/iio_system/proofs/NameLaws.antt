@@ -12,7 +12,7 @@ use Rattle.iiod_commands.specs.Seat.{SeatRecord}
 use Rattle.iio_history.specs.Script.{is_known, max_names}
 use Rattle.iio_history.specs.Told.{Line, Told}
 use Rattle.iio_history.specs.Transcript.{line_named}
-use Rattle.iio_system.specs.declared.connection.Connection.{Connection}
+use Rattle.iio_bench.specs.declared.connection.Connection.{Connection}
 use Rattle.iio_system.specs.Standing.{has_room, name_by}
 use Rattle.iio_system.specs.System.{AreLines, IsServed}
 

@@ -19,8 +19,8 @@ use Rattle.iio_history.specs.BenchLaw.{CanJoinMore, new_client}
 use Rattle.iio_history.proofs.BenchKept.{arrived_is_there, bench_kept, room_after}
 use Rattle.iio_history.proofs.BenchLists.{name_itself}
 use Rattle.iio_history.proofs.BenchOthers.{arrival_is_nothing, new_is_client}
-use Rattle.iio_system.specs.declared.connection.Connection.{Connection}
-use Rattle.iio_system.specs.Connection.{IsHearing}
+use Rattle.iio_bench.specs.declared.connection.Connection.{Connection}
+use Rattle.iio_bench.specs.Connection.{IsHearing}
 use Rattle.iio_system.specs.System.{AreLines, Stands}
 use Rattle.iio_system.proofs.FedLaws.{HasArrived, user_of_line}
 use Rattle.iio_system.proofs.LineLaws.{OthersAre, clients_kept, every_line_there, other_arrived, others_are, others_move}

@@ -14,7 +14,7 @@ use Rattle.iio_history.specs.Transcript.{line_named}
 use Rattle.iio_history.specs.Bench.{AreDistinct, is_in, name_of}
 use Rattle.iio_history.specs.BenchLaw.{heard}
 use Rattle.iio_history.proofs.BenchLists.{name_same}
-use Rattle.iio_system.specs.declared.connection.Connection.{Connection}
+use Rattle.iio_bench.specs.declared.connection.Connection.{Connection}
 use Rattle.iio_system.specs.System.{AreLines, IsServed}
 use Rattle.iio_system.proofs.EndLaws.{has_end, is_end}
 use Rattle.iio_system.proofs.LineLaws.{OthersAre}

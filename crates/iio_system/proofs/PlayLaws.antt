@@ -16,15 +16,16 @@ use Rattle.iio_history.specs.Machine.{step}
 use Rattle.iio_history.specs.Played.{state_after}
 use Rattle.iio_history.specs.Transcript.{Drop, Feed, printed}
 use Rattle.iio_history.proofs.BenchLists.{name_same}
-use Rattle.iio_system.specs.declared.bench.Bench.{Bench}
-use Rattle.iio_system.specs.declared.connection.Connection.{Connection}
+use Rattle.iio_bench.specs.declared.bench.Bench.{Bench}
+use Rattle.iio_bench.specs.declared.connection.Connection.{Connection}
 use Rattle.iio_kinds.specs.declared.seat.Seat.{Seat}
 use Rattle.iio_system.specs.declared.step.Step.{Step as CodeStep}
 use Rattle.iio_system.specs.Step.{step_view}
-use Rattle.iio_system.specs.Bench.{Kept, front_of, kept_of, machine_of}
-use Rattle.iio_system.specs.Feeding.{AreOwning, Feeds, IsOwning, left_by}
+use Rattle.iio_bench.specs.Bench.{Kept, front_of, kept_of, machine_of}
+use Rattle.iio_system.specs.Connections.{AreOwning}
+use Rattle.iio_bench.specs.Feeding.{Feeds, IsOwning, left_by}
 use Rattle.iio_history.specs.Words.{dropped_word}
-use Rattle.iio_system.specs.Seat.{seen_of}
+use Rattle.iio_bench.specs.Seat.{seen_of}
 use Rattle.iio_system.specs.Standing.{Holds, IsNew, Makes, MakesFeed, MakesStep, has_room, name_by, names_with}
 use Rattle.iio_system.specs.System.{Stands}
 use Rattle.iio_system.proofs.DropLaws.{dropped_nowhere, dropped_there}

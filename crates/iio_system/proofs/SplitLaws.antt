@@ -9,12 +9,13 @@ use Rattle.iio_sensor.specs.Driver.{Driver}
 use Rattle.iio_device.specs.declared.plug.Plug.{Plug}
 use Rattle.iio_history.specs.Transcript.{Feed}
 use Rattle.iio_history.proofs.BenchLists.{name_same}
-use Rattle.iio_system.specs.declared.bench.Bench.{Bench}
-use Rattle.iio_system.specs.declared.connection.Connection.{Connection}
+use Rattle.iio_bench.specs.declared.bench.Bench.{Bench}
+use Rattle.iio_bench.specs.declared.connection.Connection.{Connection}
 use Rattle.iio_kinds.specs.declared.seat.Seat.{Seat}
-use Rattle.iio_system.specs.Bench.{front_of, kept_of, machine_of}
-use Rattle.iio_system.specs.Feeding.{AreOwning, Feeds, IsOwning}
-use Rattle.iio_system.specs.Seat.{seen_of}
+use Rattle.iio_bench.specs.Bench.{front_of, kept_of, machine_of}
+use Rattle.iio_system.specs.Connections.{AreOwning}
+use Rattle.iio_bench.specs.Feeding.{Feeds, IsOwning}
+use Rattle.iio_bench.specs.Seat.{seen_of}
 use Rattle.iio_system.specs.Standing.{MakesFeed, name_by, names_with}
 use Rattle.iio_system.proofs.NameLaws.{is_named}
 use Rattle.iio_system.proofs.PlayLaws.{feeds_there, names_kept, names_there}

@@ -1,10 +1,8 @@
 -- A new bench holds the state before the first step.
-use Rattle.std.proofs.Common.{◌≡◌, ℕ, suc, zero, ◌+◌, ◌<◌, ◌≤◌, ◌*◌, ◌-◌, ◌^◌, List, [], ◌∷◌, ◌++◌, map, fold, length, slice_get, slice_index_or, Option, Some, None, option_map, All, refl, sym, ap, ◌∙◌, subst, arith}
-use Rattle.std.specs.Prelude.{◌==◌, ◌||◌, ℤ}
+use Rattle.std.proofs.Common.{◌≡◌, ℕ, suc, zero, ◌+◌, ◌<◌, ◌≤◌, ◌*◌, ◌-◌, ◌^◌, List, [], ◌∷◌, ◌++◌, map, fold, length, slice_get, Option, Some, None, option_map, All, refl, sym, ap, ◌∙◌, subst, arith}
+use Rattle.std.specs.Prelude.{ℤ}
 use Rattle.iio_sensor.specs.Driver.{Driver}
-use Rattle.iio_scan_type.specs.Format.{size_of}
 use Rattle.iio_mask.specs.Mask.{has}
-use Rattle.iio_layout.specs.declared.channel.Channel.{Channel}
 use Rattle.iio_derive.specs.Window.{Window}
 use Rattle.iio_output.specs.Last.{first_last}
 use Rattle.iio_desc.specs.declared.description.AttrDesc.{AttrDesc}
@@ -24,26 +22,15 @@ use Rattle.iio_history.specs.Bench.{Every, HasDeviceSizes, bench_by, machine_of 
 use Rattle.iio_history.specs.BenchLaw.{CanJoinMore}
 use Rattle.iio_history.proofs.BenchKept.{first_bench, room_lasts}
 use Rattle.iio_history.proofs.BenchSites.{written_same}
-use Rattle.iio_history.proofs.BenchSizes.{sizes_from}
-use Rattle.iio_system.specs.declared.bench.Bench.{Bench}
-use Rattle.iio_system.specs.Bench.{front_of, machine_of}
-use Rattle.iio_system.specs.First.{first_machine, first_station}
+use Rattle.iio_bench.specs.declared.bench.Bench.{Bench}
+use Rattle.iio_bench.specs.Bench.{front_of, machine_of}
+use Rattle.iio_bench.specs.First.{first_machine, first_station}
 use Rattle.iio_kinds.specs.MeanStation.{first_mean_station}
 use Rattle.iio_kinds.specs.OutStation.{first_out_station}
 use Rattle.iio_system.specs.Standing.{Holds}
-use Rattle.iio_system.proofs.OpenLemmas.{full_has}
 
--- ---- scans have bytes
+-- ---- the devices of a description that is well formed have channels
 
-pub every_size : (hs : List DeviceHead) → All (λ (d : DeviceHead). 0 < length d.shape.channels) hs
-    → All (λ (d : DeviceHead). All (λ (channel : Channel). 1 ≤ size_of channel.ty) d.shape.channels) hs → Every HasDeviceSizes hs
-every_size [] some all = tt
-every_size (d ∷ ds) some all = (
-  record { sizes = sizes_from d.shape (all 0 d (omega arith)); full = full_has d.shape (some 0 d (omega arith)) },
-  every_size ds (λ i e within. some (suc i) e (omega (arith, within))) (λ i e within. all (suc i) e (omega (arith, within))),
-)
-
--- the devices of a description that is well formed have channels
 some_in : {A : Type 0} (P : A → Type 0) (head : A → DeviceHead) → ((x : A) → P x → 0 < length (head x).shape.channels) → (xs : List A) → All P xs
     → (rest : List DeviceHead)
     → All (λ (d : DeviceHead). 0 < length d.shape.channels) rest → All (λ (d : DeviceHead). 0 < length d.shape.channels) (map head xs ++ rest)
@@ -176,10 +163,3 @@ pub none_within : {D : Type 0} (f : D → ℕ) (n : ℕ) (ds : List D) → All (
 none_within f n [] none i c within = absurd (omega (arith, within))
 none_within f n (d ∷ ds) none zero c within = let e = none 0 d (omega arith) in omega (arith, e)
 none_within f n (d ∷ ds) none (suc i) c within = none_within f n ds (λ k e h. none (suc k) e (omega (arith, h))) i c (omega (arith, within))
-
--- what is seen of an element at its place
-pub front_at : {A B : Type 0} (f : A → B) (xs : List A) (i : ℕ) (x : A) (d : B) → x ≡ slice_index_or xs i x → i < length xs
-    → slice_index_or (map f xs) i d ≡ f x
-front_at f [] i x d is within = absurd (omega arith)
-front_at f (y ∷ ys) zero x d is within = ap f (sym is)
-front_at f (y ∷ ys) (suc i) x d is within = front_at f ys i x d is (omega (arith, within))

@@ -21,8 +21,8 @@ use Rattle.iio_history.specs.Bench.{Every, bench_by, names_of}
 use Rattle.iio_history.specs.BenchLaw.{CanJoinMore}
 use Rattle.iio_history.proofs.BenchKept.{room_after}
 use Rattle.iio_history.proofs.TranscriptLaws.{lines_are, state_is}
-use Rattle.iio_system.specs.declared.bench.Bench.{Bench}
-use Rattle.iio_system.specs.declared.connection.Connection.{Connection}
+use Rattle.iio_bench.specs.declared.bench.Bench.{Bench}
+use Rattle.iio_bench.specs.declared.connection.Connection.{Connection}
 use Rattle.iio_kinds.specs.declared.seat.Seat.{Seat}
 use Rattle.iio_system.specs.declared.step.Step.{Step as CodeStep}
 use Rattle.iio_system.specs.declared.step.Step.TheVariants as code

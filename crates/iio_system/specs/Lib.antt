@@ -1,14 +1,6 @@
-pub mod Triggers
-pub mod Averages
-pub mod Together
-pub mod Seat
-pub mod Bench
-pub mod First
-pub mod Connection
 pub mod Step
 pub mod System
-pub mod Feeding
-pub mod Guard
+pub mod Connections
 pub mod Standing
 pub mod Moves
 pub mod Tally

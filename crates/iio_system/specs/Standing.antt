@@ -13,14 +13,14 @@ use Rattle.iio_history.specs.Bench.{Every}
 use Rattle.iio_history.specs.BenchLaw.{CanJoinMore}
 use Rattle.iio_history.specs.Played.{state_after, step_lines}
 use Rattle.iio_worlds.specs.Stance.{step_meets}
-use Rattle.iio_system.specs.declared.bench.Bench.{Bench}
-use Rattle.iio_system.specs.declared.connection.Connection.{Connection}
+use Rattle.iio_bench.specs.declared.bench.Bench.{Bench}
+use Rattle.iio_bench.specs.declared.connection.Connection.{Connection}
 use Rattle.iio_kinds.specs.declared.seat.Seat.{Seat}
 use Rattle.iio_system.specs.declared.step.Step.{Step as CodeStep}
 use Rattle.iio_system.specs.declared.step.Step.TheVariants as code
 use Rattle.iio_system.specs.declared.system.System.{System}
-use Rattle.iio_system.specs.Bench.{front_of, machine_of}
-use Rattle.iio_system.specs.Seat.{seen_of}
+use Rattle.iio_bench.specs.Bench.{front_of, machine_of}
+use Rattle.iio_bench.specs.Seat.{seen_of}
 use Rattle.iio_system.specs.Step.{cost_of, step_view}
 use Rattle.iio_system.specs.System.{Stands}
 

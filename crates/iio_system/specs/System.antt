@@ -9,8 +9,8 @@ use Rattle.iiod_session.specs.Session.{SessionRecord}
 use Rattle.iio_history.specs.Registry.{Setup}
 use Rattle.iio_history.specs.Told.{Line, Told}
 use Rattle.iio_history.specs.Bench.{IsBench, IsClientOf, front_of, machine_of}
-use Rattle.iio_system.specs.declared.connection.Connection.{Connection}
-use Rattle.iio_system.specs.Connection.{IsSessionOf}
+use Rattle.iio_bench.specs.declared.connection.Connection.{Connection}
+use Rattle.iio_bench.specs.Connection.{IsSessionOf}
 
 abbrev pub IsBare : ClientRecord → Type 0
 IsBare client = (client.seats ≡ []) × (client.holdings ≡ [])

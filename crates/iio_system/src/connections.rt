@@ -1,29 +1,23 @@
 //! The connections of a script at the bench.
 
-ghost use Rattle.std.specs.Prelude.{◌≡◌, ◌++◌, ◌<◌, ◌≤◌, true, None, Some, IfOk, OnOk, is_some, length, map, position, slice_index_or};
+ghost use Rattle.std.specs.Prelude.{◌≡◌, ◌<◌, ◌≤◌, true, None, IfOk, OnOk, length, map, position, slice_index_or};
 ghost use Rattle.std.specs.Str.{bytes_eq};
 ghost use Rattle.iio_history.specs.Script.{max_names};
 ghost use Rattle.iio_history.specs.Transcript.{Drop, Feed};
-ghost use Rattle.iio_system.specs.Bench.{front_of, kept_of, machine_of};
-ghost use Rattle.iiod_commands.specs.Acts.{left_machine};
-ghost use Rattle.iiod_commands.specs.Client.{IsClient, client_of};
-ghost use Rattle.iio_system.specs.Feeding.{AreApart, AreOwning, Feeds, IsOwning, left_by};
-ghost use Rattle.iio_system.specs.Guard.{MeetsBeside};
+ghost use Rattle.iio_bench.specs.Bench.{front_of, kept_of};
+ghost use Rattle.iio_system.specs.Connections.{AreApart, AreOwning};
 ghost use Rattle.iio_system.specs.Standing.{IsNew, Makes, MakesFeed, Meets, MeetsFeed, has_room, name_by, names_with};
-ghost use Rattle.iio_system.specs.Seat.{seen_of};
+ghost use Rattle.iio_bench.specs.Seat.{seen_of};
 
-use crate::bench::Bench;
-use crate::connection::{Connection, feed_at};
-use crate::guard::{Guard, may_end};
 use crate::lines::push_drop;
-use crate::others::Others;
 use iio_attr::Name;
 use iio_base::Mem;
+use iio_bench::{Bench, Connection, Others, feed_beside, feed_unwatched, lose, may_end};
 use iio_device::Plug;
 use iio_kinds::Seat;
 use iio_sensor::Sensor;
 use iio_worlds::stance_law;
-use iiod_session::{Manner, Session, Unwatched};
+use iiod_session::{Manner, Session};
 use std::alloc::Global;
 
 /// The place of the connection of that name.
@@ -97,15 +91,7 @@ fn feed_first(
 {
     connections.reserve(1)?;
     let mut connection = connect(alloc, connections.len(), name)?;
-    let fed = feed_at(
-        alloc,
-        bench,
-        &mut Unwatched,
-        &mut connection,
-        bytes,
-        answers,
-        out,
-    );
+    let fed = feed_unwatched(alloc, bench, &mut connection, bytes, answers, out);
     connections.push_reserved(connection);
     fed
 }
@@ -138,43 +124,7 @@ pub(crate) fn feed(
         return feed_first(alloc, bench, connections, name, bytes, answers, out);
     };
     *last = at;
-    feed_at(
-        alloc,
-        bench,
-        &mut Unwatched,
-        &mut connections[at],
-        bytes,
-        answers,
-        out,
-    )
-}
-
-// Feeds a connection, and returns whether what it says keeps to the rules of bystanders as to the watched connection; `before`
-// and `after` are the other connections.
-fn feed_beside(
-    alloc: Global,
-    bench: &mut Bench,
-    watched: &[u8],
-    connection: &mut Connection<Seat>,
-    before: &[Connection<Seat>],
-    after: &[Connection<Seat>],
-    bytes: &[u8],
-    answers: &mut Vec<u8>,
-    out: &mut Vec<u8>,
-) -> Result<bool, Mem>
-    requires { IsOwning seen_of (front_of bench.old) connection.old.session }
-    ensures kept { kept_of bench.new ≡ kept_of bench.old }
-    ensures name { connection.new.name ≡ connection.old.name }
-    ensures client { IsOwning seen_of (front_of bench.new) connection.new.session }
-    ensures fed { OnOk result (Feeds seen_of connection.old.name bytes.now (front_of bench.old) (Some (machine_of ⟦<Plug as Sensor>⟧.driver bench.old))
-        (Some (machine_of ⟦<Plug as Sensor>⟧.driver bench.new)) out.old.items out.new.items connection.old.session connection.new.session) }
-    ensures meets { IfOk result (MeetsBeside seen_of watched.now connection.old.name bytes.now (front_of bench.old)
-        (Some (machine_of ⟦<Plug as Sensor>⟧.driver bench.old)) connection.old.session (before.now ++ after.now)) }
-{
-    let others = Others { before, after };
-    let mut watch = Guard::new(watched, &connection.name, others);
-    feed_at(alloc, bench, &mut watch, connection, bytes, answers, out)?;
-    Ok(watch.meets)
+    feed_unwatched(alloc, bench, &mut connections[at], bytes, answers, out)
 }
 
 // Does what `feed_guarded` does with a connection that is fed for the first time, and adds it.
@@ -267,35 +217,6 @@ pub(crate) fn feed_guarded(
     feed_beside(
         alloc, bench, watched, connection, before, after, bytes, answers, out,
     )
-}
-
-// Closes a session's seats, and ends its holdings of events.
-fn leave(bench: &mut Bench, session: Session<Seat>)
-    requires { IsClient seen_of (front_of bench.old) session.client }
-    ensures kept { kept_of bench.new ≡ kept_of bench.old }
-    ensures told { machine_of ⟦<Plug as Sensor>⟧.driver bench.new
-        ≡ left_machine (front_of bench.old) (machine_of ⟦<Plug as Sensor>⟧.driver bench.old) (client_of seen_of session.client) }
-{
-    session.end(bench);
-}
-
-// Loses a connection, which then has no session any more. Returns whether it had one.
-fn lose(bench: &mut Bench, connection: &mut Connection<Seat>) -> bool
-    requires { IsOwning seen_of (front_of bench.old) connection.old.session }
-    ensures kept { kept_of bench.new ≡ kept_of bench.old }
-    ensures name { connection.new.name ≡ connection.old.name }
-    ensures ended { connection.new.session ≡ None }
-    ensures live { result ≡ is_some connection.old.session }
-    ensures told { machine_of ⟦<Plug as Sensor>⟧.driver bench.new
-        ≡ left_by seen_of (front_of bench.old) (machine_of ⟦<Plug as Sensor>⟧.driver bench.old) connection.old.session }
-{
-    match connection.session.take() {
-        None => false,
-        Some(session) => {
-            leave(bench, session);
-            true
-        }
-    }
 }
 
 /// Loses the connection of that name: its seats are closed and its holdings of events end. Appends the line that says so.

@@ -2,48 +2,22 @@
 //! never inlined, so that a step doesn't pay for the locals of another.
 
 ghost use Rattle.std.specs.Prelude.{◌≡◌, ◌++◌, ◌<◌, ◌≤◌, List, [], ◌∷◌, OnOk, codes, length};
-ghost use Rattle.iio_desc.specs.declared.limits.TheConstants.{MAX_DEVICES};
 ghost use Rattle.iio_core.specs.Front.{device_name, trigger_name};
 ghost use Rattle.iio_history.specs.Transcript.{Fire, Handle, Poll, Sense, SetClock, Unplug, printed};
-ghost use Rattle.iio_system.specs.declared.connection.Connection.{Connection};
+ghost use Rattle.iio_bench.specs.declared.connection.Connection.{Connection};
 ghost use Rattle.iio_kinds.specs.declared.seat.Seat.{Seat};
-ghost use Rattle.iio_system.specs.Bench.{captures_of, front_of, room_at};
+ghost use Rattle.iio_bench.specs.Bench.{captures_of, front_of, room_at};
 ghost use Rattle.iio_history.specs.Words.{became_word};
 ghost use Rattle.iio_system.specs.Moves.{CanGoOn, HandlesAll, HandlesOne};
 ghost use Rattle.iio_system.specs.Standing.{CanCapture, Makes, RiseBy};
 
-use crate::bench::Bench;
 use crate::lines::{push_clock, push_gave, push_handle, push_poll, push_sense, push_unplug};
-use iio_attr::Name;
 use iio_base::Mem;
+use iio_bench::Bench;
 use iio_core::Became;
 use iio_device::Plug;
 use iio_sensor::Sensor;
 use iio_trigger::Polled;
-
-// The name of a trigger.
-fn trigger_name(bench: &Bench, trigger: u32) -> &Name
-    requires { trigger < length (front_of bench.now).triggers }
-    ensures { result.now ≡ trigger_name (front_of bench.now) trigger }
-{
-    &bench.described[trigger as usize].name
-}
-
-// The name of a device.
-fn device_name(bench: &Bench, dev: u32) -> &Name
-    requires { dev < length (front_of bench.now).devices }
-    ensures { result.now ≡ device_name (front_of bench.now) dev }
-{
-    bench.devices[dev as usize].name()
-}
-
-// The number of devices.
-fn device_count(bench: &Bench) -> u32
-    ensures value { result ≡ length (front_of bench.now).devices }
-    ensures most { result ≤ MAX_DEVICES }
-{
-    bench.devices.len() as u32
-}
 
 /// `clock T`: sets the clock.
 pub(crate) fn set_clock(bench: &mut Bench, t: i64, out: &mut Vec<u8>) -> Result<(), Mem>
@@ -65,7 +39,7 @@ pub(crate) fn unplug(bench: &mut Bench, dev: u32, out: &mut Vec<u8>) -> Result<(
     ensures captures { RiseBy 32 (captures_of bench.old) (captures_of bench.new) }
 {
     let was_plugged = bench.unplug(dev);
-    push_unplug(out, device_name(bench, dev), was_plugged)
+    push_unplug(out, bench.name_of_device(dev), was_plugged)
 }
 
 /// `sense DEVICE T`: looks at a device's thresholds.
@@ -78,7 +52,7 @@ pub(crate) fn sense(bench: &mut Bench, dev: u32, t: i64, out: &mut Vec<u8>) -> R
     ensures captures { RiseBy 32 (captures_of bench.old) (captures_of bench.new) }
 {
     let sensed = bench.sense(dev, t);
-    push_sense(out, device_name(bench, dev), sensed)
+    push_sense(out, bench.name_of_device(dev), sensed)
 }
 
 /// `poll TRIGGER T`: polls a trigger.
@@ -91,7 +65,7 @@ pub(crate) fn poll(bench: &mut Bench, trigger: u32, t: i64, out: &mut Vec<u8>) -
     ensures captures { RiseBy 32 (captures_of bench.old) (captures_of bench.new) }
 {
     let polled = bench.poll(trigger, t);
-    push_poll(out, trigger_name(bench, trigger), polled)
+    push_poll(out, bench.name_of_trigger(trigger), polled)
 }
 
 // Appends the line of an entry that was handled.
@@ -108,20 +82,12 @@ fn push_became(
     ensures { OnOk result (out.new.items ≡ out.old.items ++ printed (codes "handle" ∷ trigger_name (front_of bench.now) trigger
         ∷ device_name (front_of bench.now) dev ∷ became_word became (room_at bench.now dev) ∷ [])) }
 {
-    let trigger = trigger_name(bench, trigger);
-    let device = device_name(bench, dev);
+    let trigger = bench.name_of_trigger(trigger);
+    let device = bench.name_of_device(dev);
     match became {
         None => push_handle(out, trigger, device, None),
         Some(Became::Asked(handled)) => push_handle(out, trigger, device, Some(handled)),
-        Some(Became::Gave(gave)) => {
-            push_gave(
-                out,
-                trigger,
-                device,
-                gave,
-                bench.devices[dev as usize].room(),
-            )
-        }
+        Some(Became::Gave(gave)) => push_gave(out, trigger, device, gave, bench.room_of(dev)),
     }
 }
 
@@ -171,7 +137,7 @@ fn handle_all(bench: &mut Bench, trigger: u32, out: &mut Vec<u8>) -> Result<(), 
         → HandlesAll ⟦<Plug as Sensor>⟧.driver trigger (length (front_of bench.old).devices) bench.old bench.new cs out.old.items out.new.items) }
     ensures captures { RiseBy 32 (captures_of bench.old) (captures_of bench.new) }
 {
-    let devices = device_count(bench);
+    let devices = bench.device_count();
     for _turn in 0..devices {
         let Some(dev) = bench.first_due(trigger) else {
             return Ok(());
@@ -196,7 +162,7 @@ pub(crate) fn fire(bench: &mut Bench, trigger: u32, t: i64, out: &mut Vec<u8>) -
     ensures captures { RiseBy 32 (captures_of bench.old) (captures_of bench.new) }
 {
     let polled = bench.poll(trigger, t);
-    push_poll(out, trigger_name(bench, trigger), polled)?;
+    push_poll(out, bench.name_of_trigger(trigger), polled)?;
     match polled {
         Polled::Missed(_) => Ok(()),
         Polled::Accepted(_) => handle_all(bench, trigger, out),

@@ -1,59 +1,34 @@
 //! The steps of a script at the core.
 
-ghost use Rattle.std.specs.Prelude.{◌≡◌, ◌+◌, ◌++◌, ◌<◌, ◌≤◌, ◌^◌, [], All, IfOk, List, OnOk, length, map, true};
-ghost use Rattle.iio_scan_type.specs.Format.{size_of};
-ghost use Rattle.iio_desc.specs.Description.{DeviceHead};
+ghost use Rattle.std.specs.Prelude.{◌≡◌, ◌+◌, ◌++◌, ◌<◌, ◌≤◌, ◌^◌, [], IfOk, List, OnOk, length, map, true};
 ghost use Rattle.iio_desc.specs.WellFormed.{IsWellFormed};
 ghost use Rattle.iio_device.specs.declared.plug.Plug.TheVariants.{Given};
 ghost use Rattle.iio_core.specs.Front.{first_front};
-ghost use Rattle.iio_history.specs.Bench.{Every, HasDeviceSizes};
 ghost use Rattle.iio_history.specs.Event.{Event};
 ghost use Rattle.iio_history.specs.Registry.{Setup};
 ghost use Rattle.iio_history.specs.Script.{max_names};
 ghost use Rattle.iio_history.specs.Transcript.{lines_of_step, with_step};
-ghost use Rattle.iio_system.specs.Bench.{captures_of, front_of};
+ghost use Rattle.iio_bench.specs.Bench.{captures_of, front_of};
 ghost use Rattle.iio_worlds.specs.Bystanders.{only_bystanders};
-ghost use Rattle.iio_system.specs.Feeding.{AreApart, AreOwning};
+ghost use Rattle.iio_system.specs.Connections.{AreApart, AreOwning};
 ghost use Rattle.iio_system.specs.Standing.{CanCapture, IsTaken, MakesStep, MeetsStep, RiseBy, StandsFor, has_room, name_by, names_by, names_with};
-ghost use Rattle.iio_system.specs.Seat.{seen_of};
-ghost use Rattle.iio_kinds.specs.Station.{any_front};
+ghost use Rattle.iio_bench.specs.Seat.{seen_of};
 ghost use Rattle.iio_system.specs.Step.{IsValid, cost_of, step_view};
 
-use crate::bench::Bench;
-use crate::connection::Connection;
 use crate::connections::{drop_guarded, drop_named, feed, feed_guarded, place};
 use crate::moves;
 use crate::step::Step;
 use crate::system::System;
 use iio_attr::Name;
 use iio_base::Mem;
+use iio_bench::{Bench, Connection};
 use iio_desc::Desc;
 use iio_device::Plug;
 use iio_history::MAX_NAMES;
-use iio_kinds::{AnyDevice, Seat};
-use iio_layout::Shape;
+use iio_kinds::Seat;
 use iio_sensor::Sensor;
 use iio_worlds::stance_law;
 use std::alloc::Global;
-
-// Looks at each channel's size, whose type says that it is at least one byte.
-fn look_at_channels(shape: &Shape)
-    ensures { All (λ channel. 1 ≤ size_of channel.ty) shape.now.channels }
-{
-    for c in 0..shape.inputs() {
-        shape.channel(c).ty.size();
-    }
-}
-
-// Looks at each device's channels: hence a scan with a channel's data is at least one byte.
-fn look_at_sizes(devices: &[AnyDevice])
-    requires { All (λ (d : DeviceHead). 0 < length d.shape.channels) (map any_front devices.now) }
-    ensures { Every HasDeviceSizes (map any_front devices.now) }
-{
-    for device in devices {
-        look_at_channels(device.shape());
-    }
-}
 
 // The cost of a step: 1, and the number of bytes that it feeds.
 fn cost_of(step: &Step) -> u64
@@ -173,7 +148,7 @@ impl System {
         ensures used { IfOk result (λ x. x.used ≡ 0) }
     {
         let bench = Bench::new(alloc, desc, drivers)?;
-        look_at_sizes(&bench.devices);
+        bench.look_at_sizes();
         Ok(System {
             alloc,
             bench,

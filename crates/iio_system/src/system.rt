@@ -3,14 +3,13 @@
 ghost use Rattle.std.proofs.Props.{props};
 ghost use Rattle.std.specs.Prelude.{◌*◌, ◌≤◌, All, length};
 ghost use Rattle.iio_history.specs.Script.{max_names};
-ghost use Rattle.iio_system.specs.Bench.{captures_of, front_of};
-ghost use Rattle.iio_system.specs.Feeding.{AreApart, AreOwning};
-ghost use Rattle.iio_system.specs.Seat.{seen_of};
+ghost use Rattle.iio_bench.specs.Bench.{captures_of, front_of};
+ghost use Rattle.iio_system.specs.Connections.{AreApart, AreOwning};
+ghost use Rattle.iio_bench.specs.Seat.{seen_of};
 
-use crate::bench::Bench;
-use crate::connection::Connection;
+use iio_bench::{Bench, Connection};
 use iio_device::Plug;
-use iio_kinds::{Seat, Tally, devices_tally};
+use iio_kinds::{Seat, Tally};
 use iio_sensor::Sensor;
 use std::alloc::Global;
 
@@ -51,6 +50,6 @@ impl System {
     pub fn tally(&self) -> Tally
         ensures { (s : Setup) (h : List Event) → StandsFor ⟦<Plug as Sensor>⟧.driver s h self.now → result ≡ tally_of (summary_of s h) }
     {
-        devices_tally(&self.bench.devices)
+        self.bench.tally()
     }
 }

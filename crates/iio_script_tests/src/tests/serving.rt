@@ -4,8 +4,8 @@
 ghost use Rattle.std.specs.Prelude.{◌≡◌, ◌+◌, ◌-◌, ◌^◌, ◌<◌, ◌≤◌, IfOk, OnOk, length};
 ghost use Rattle.iio_desc.specs.DescReader.{drivers_of, line_count};
 ghost use Rattle.iiod_commands.specs.Client.{IsClient};
-ghost use Rattle.iio_system.specs.Bench.{front_of};
-ghost use Rattle.iio_system.specs.Seat.{seen_of};
+ghost use Rattle.iio_bench.specs.Bench.{front_of};
+ghost use Rattle.iio_bench.specs.Seat.{seen_of};
 
 use iio_desc::DescReader;
 use iio_device::Handled;

@@ -1,7 +1,7 @@
 use Rattle.std.proofs.Common.{◌≡◌, ◌+◌, ◌-◌, ◌*◌, ◌≤◌, [], None, IfNone}
 use Rattle.iio_device.specs.Plug.{driver_of}
 use Rattle.iio_history.specs.Registry.{Setup}
-use Rattle.iio_system.specs.Bench.{front_of}
+use Rattle.iio_bench.specs.Bench.{front_of}
 use Rattle.iio_system.specs.Standing.{StandsFor}
 use Rattle.iio_script.specs.LineReader.{IsHand}
 use Rattle.iio_script.specs.Outline.{FindsSame}

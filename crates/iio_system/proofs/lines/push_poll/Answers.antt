@@ -1,5 +1,5 @@
 use Rattle.std.proofs.Common.{arith}
-use Rattle.iio_system.proofs.RoomLemmas.{line_stands}
+use Rattle.iio_bench.proofs.RoomLemmas.{line_stands}
 use Rattle.iio_system.proofs.lines.push_poll.Goals as goal
 
 pub returns : goal.returns

@@ -1,7 +1,7 @@
 use Rattle.std.proofs.Common.{arith, refl}
 use Rattle.std.proofs.lemmas.Result.{on_ok_weaker}
 use Rattle.iio_device.specs.Plug.{driver_of}
-use Rattle.iio_system.specs.Bench.{captures_of, room_at}
+use Rattle.iio_bench.specs.Bench.{captures_of, room_at}
 use Rattle.iio_system.proofs.MoveLaws.{handle_holds, handle_line, no_end, rise_counted, rise_more}
 use Rattle.iio_system.proofs.moves.handle.Goals as goal
 

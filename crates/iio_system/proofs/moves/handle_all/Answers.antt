@@ -1,6 +1,6 @@
 use Rattle.std.proofs.Common.{sym, ◌∙◌, ◌+◌, length, arith}
 use Rattle.iio_device.specs.Plug.{driver_of}
-use Rattle.iio_system.specs.Bench.{captures_of, front_of}
+use Rattle.iio_bench.specs.Bench.{captures_of, front_of}
 use Rattle.iio_system.proofs.FireLaws.{left_last, left_next, left_none, left_past, rise_on, still_go}
 use Rattle.iio_system.proofs.MoveLaws.{rise_more}
 use Rattle.iio_system.proofs.moves.handle_all.Goals as goal

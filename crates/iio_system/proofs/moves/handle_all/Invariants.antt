@@ -3,9 +3,9 @@ use Rattle.iio_device.specs.Plug.{driver_of}
 use Rattle.iio_history.specs.Registry.{Setup}
 use Rattle.iio_core.specs.Trigger.{entries_at}
 use Rattle.iio_history.specs.Told.{Told}
-use Rattle.iio_system.specs.declared.connection.Connection.{Connection}
+use Rattle.iio_bench.specs.declared.connection.Connection.{Connection}
 use Rattle.iio_kinds.specs.declared.seat.Seat.{Seat}
-use Rattle.iio_system.specs.Bench.{captures_of, front_of}
+use Rattle.iio_bench.specs.Bench.{captures_of, front_of}
 use Rattle.iio_system.specs.Moves.{InOrder}
 use Rattle.iio_system.specs.Standing.{Holds, RiseBy}
 use Rattle.iio_system.proofs.FireLaws.{IsLeft}

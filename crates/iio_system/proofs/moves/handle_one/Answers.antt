@@ -1,7 +1,7 @@
 use Rattle.std.proofs.Common.{refl}
 use Rattle.std.proofs.lemmas.Result.{on_ok_weaker}
 use Rattle.iio_device.specs.Plug.{driver_of}
-use Rattle.iio_system.specs.Bench.{captures_of, room_at}
+use Rattle.iio_bench.specs.Bench.{captures_of, room_at}
 use Rattle.iio_system.proofs.FireLaws.{plays_none, plays_some}
 use Rattle.iio_system.proofs.MoveLaws.{not_ended, rise_counted}
 use Rattle.iio_system.proofs.moves.handle_one.Goals as goal

@@ -12,7 +12,7 @@ returns-clause-makes g c =
     (λ line cs s m h. (
       poll_line (driver_of (λ b. (g.dyn-1.0.entry b.vtable).1.driver b.value)) c.args.trigger c.args.t c.args.bench.now c.poll-polled.new.self cs
           c.poll-polled.ensures.front told s m h
-          c.args.out.now.items c.push_poll.new.out.items c.trigger_name.result.now c.poll-polled.result c.trigger_name.ensures
+          c.args.out.now.items c.push_poll.new.out.items c.name_of_trigger.result.now c.poll-polled.result c.name_of_trigger.ensures
           (rw (to_z-of_z w64 c.args.t c.ranges.t) at c.poll-polled.ensures.answer) line,
       poll_holds (driver_of (λ b. (g.dyn-1.0.entry b.vtable).1.driver b.value)) c.args.trigger c.args.t c.args.bench.now c.poll-polled.new.self cs
           c.poll-polled.ensures.front told s m h,

@@ -9,6 +9,6 @@ pub returns-clause-makes : goal.returns-clause-makes
 returns-clause-makes g c =
     on_ok_weaker c.push_sense.result
     (λ line cs. sense_makes (driver_of (λ b. (g.dyn-1.0.entry b.vtable).1.driver b.value)) c.args.dev c.args.t c.args.bench.now c.sense-sensed.new.self cs
-    c.args.out.now.items c.push_sense.new.out.items c.device_name.result.now c.sense-sensed.result
+    c.args.out.now.items c.push_sense.new.out.items c.name_of_device.result.now c.sense-sensed.result
     c.requires c.sense-sensed.ensures.front (rw (to_z-of_z w64 c.args.t c.ranges.t) at c.sense-sensed.ensures.told)
-    c.device_name.ensures (rw (to_z-of_z w64 c.args.t c.ranges.t) at c.sense-sensed.ensures.answer) line) c.push_sense.ensures
+    c.name_of_device.ensures (rw (to_z-of_z w64 c.args.t c.ranges.t) at c.sense-sensed.ensures.answer) line) c.push_sense.ensures

@@ -4,7 +4,7 @@ use Rattle.iio_device.specs.declared.plug.Plug.TheVariants.{Given}
 use Rattle.iio_device.specs.Plug.{driver_of}
 use Rattle.iio_core.specs.Front.{Front}
 use Rattle.iio_history.specs.Bench.{Every, HasDeviceSizes}
-use Rattle.iio_kinds.specs.Station.{any_front, captures_by}
+use Rattle.iio_kinds.specs.Station.{captures_by}
 use Rattle.iio_system.proofs.StartLaws.{holds_first, none_within, room_first, some_channels}
 use Rattle.iio_system.proofs.system.System.new.Goals as goal
 
@@ -18,9 +18,8 @@ invariant_of-result g c = record {
 
 pub look_at_sizes-requires : goal.look_at_sizes-requires
 look_at_sizes-requires g c =
-    subst (λ ds. All (λ (d : DeviceHead). 0 < length d.shape.channels) (map any_front ds)) (sym c.deref.ensures.value)
-    (subst (λ (f : Front). All (λ (d : DeviceHead). 0 < length d.shape.channels) f.devices) (sym c.in_ok-bench.ensures.front)
-    (some_channels (length c.args.drivers.items) c.args.desc c.requires))
+    subst (λ (f : Front). All (λ (d : DeviceHead). 0 < length d.shape.channels) f.devices) (sym c.in_ok-bench.ensures.front)
+    (some_channels (length c.args.drivers.items) c.args.desc c.requires)
 
 pub returns-clause-stands : goal.returns-clause-stands
 returns-clause-stands g c = record {
@@ -29,8 +28,7 @@ returns-clause-stands g c = record {
       (holds_first (driver_of (λ b. (g.dyn-1.0.entry b.vtable).1.driver b.value))
       (record { desc = c.args.desc; drivers = map (λ d. driver_of (λ b. (g.dyn-1.0.entry b.vtable).1.driver b.value) (Given d)) c.args.drivers.items })
       c.in_ok-bench.bench c.in_ok-bench.ensures.front c.in_ok-bench.ensures.told
-      (subst (λ (f : Front). Every HasDeviceSizes f.devices) c.in_ok-bench.ensures.front
-      (subst (λ ds. Every HasDeviceSizes (map any_front ds)) c.deref.ensures.value c.look_at_sizes.ensures)));
+      (subst (λ (f : Front). Every HasDeviceSizes f.devices) c.in_ok-bench.ensures.front c.look_at_sizes.ensures));
   room =
       room_first (record {
         desc = c.args.desc;

@@ -1,6 +1,6 @@
 use Rattle.std.proofs.Common.{◌+◌, ℕ, ap}
 use Rattle.iio_device.specs.Plug.{driver_of}
-use Rattle.iio_system.specs.Bench.{captures_of}
+use Rattle.iio_bench.specs.Bench.{captures_of}
 use Rattle.iio_system.proofs.StepLaws.{counted_more, steps_ok}
 use Rattle.iio_system.proofs.system.System.step.Goals as goal
 

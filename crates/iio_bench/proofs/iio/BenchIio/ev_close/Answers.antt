@@ -1,0 +1,35 @@
+use Rattle.std.proofs.Common.{ap, sym, ◌∙◌}
+use Rattle.iio_desc.specs.Kind.{is_input}
+use Rattle.iio_kinds.specs.Station.{any_front}
+use Rattle.iio_device.specs.Plug.{driver_of}
+use Rattle.iio_bench.proofs.ListLemmas.{element_at, numbered_after}
+use Rattle.iio_bench.proofs.IioLemmas.{averaged_kept, device_keeps, ev_close_kept, sound_kept}
+use Rattle.iio_bench.proofs.ToldLemmas.{kind_is, told_ev_close}
+use Rattle.iio_bench.proofs.iio.BenchIio.ev_close.Goals as goal
+
+pub invariant_of-self : goal.invariant_of-self
+invariant_of-self g c =
+    let at = element_at any_front _ _ _ c.requires.dev c.index_mut.ensures.value in
+    let drive = (driver_of (λ b. (g.dyn-1.0.entry b.vtable).1.driver b.value)) in
+    let kept = ev_close_kept drive c.index_mut.result.now c.ev_close.new.self _ _ c.ev_close.ensures.acts in
+    record {
+      sound = sound_kept drive _ _ c.index_mut.result.now c.ev_close.new.self at _ _ c.args.self.now.sound kept;
+      numbered = numbered_after _ _ _ _ _ c.args.self.now.numbered at c.ev_close.ensures.keeps.head.number;
+      averaged = averaged_kept drive _ _ c.index_mut.result.now c.ev_close.new.self at _ _ c.args.self.now.averaged c.ev_close.ensures.keeps.head kept;
+    }
+
+pub returns-clause-kept : goal.returns-clause-kept
+returns-clause-kept g c =
+    let at = element_at any_front _ _ _ c.requires.dev c.index_mut.ensures.value in
+    device_keeps _ _ _ _ _ _ at c.ev_close.ensures.keeps
+
+pub returns-clause-told : goal.returns-clause-told
+returns-clause-told g c =
+    let at = element_at any_front _ _ _ c.requires.dev c.index_mut.ensures.value in
+    told_ev_close _ _ _ _ _ _ _ at _ _ c.ev_close.ensures.acts
+
+pub ev_close-requires : goal.ev_close-requires
+ev_close-requires g c =
+    ap is_input (sym (kind_is any_front c.args.self.now.context.items c.args.self.now.described.items c.args.self.now.devices.items c.args.dev
+    c.index_mut.result.now (element_at any_front _ _ _ c.requires.dev c.index_mut.ensures.value)))
+    ∙ c.requires.input

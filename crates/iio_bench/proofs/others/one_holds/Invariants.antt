@@ -1,0 +1,10 @@
+use Rattle.std.proofs.Common.{◌≡◌, drop}
+use Rattle.iio_worlds.specs.Stance.{one_seated}
+use Rattle.iio_bench.specs.Guard.{clients_besides}
+use Rattle.iio_bench.specs.Seat.{seen_of}
+use Rattle.iio_bench.proofs.others.one_holds.Given as goal
+
+abbrev pub invariant-loop-connection : goal.invariant-loop-connection
+invariant-loop-connection l =
+    one_seated (clients_besides seen_of l.watched (drop l.connection-index l.connections)) l.dev
+    ≡ one_seated (clients_besides seen_of l.watched l.connections) l.dev

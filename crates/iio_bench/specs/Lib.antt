@@ -1,0 +1,9 @@
+pub mod Triggers
+pub mod Averages
+pub mod Together
+pub mod Seat
+pub mod Bench
+pub mod First
+pub mod Connection
+pub mod Feeding
+pub mod Guard

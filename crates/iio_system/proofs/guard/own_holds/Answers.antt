@@ -1,6 +1,0 @@
-use Rattle.iio_system.specs.Seat.{seen_of}
-use Rattle.iio_system.proofs.BesideLaws.{held_is}
-use Rattle.iio_system.proofs.guard.own_holds.Goals as goal
-
-pub returns-in-Some : goal.returns-in-Some
-returns-in-Some c = rw c.in-Some.is (held_is seen_of c.in-Some.session.now c.args.dev c.holds.result (c.holds.ensures seen_of))

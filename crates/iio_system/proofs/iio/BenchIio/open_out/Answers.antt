@@ -1,6 +1,0 @@
-use Rattle.iio_system.proofs.OpenLemmas.{cycle_written}
-use Rattle.iio_system.proofs.iio.BenchIio.open_out.Goals as goal
-
-pub open_any-requires-clause-cycles : goal.open_any-requires-clause-cycles
-open_any-requires-clause-cycles g c =
-    cycle_written c.args.cyclic _ c.requires.written
