@@ -1,25 +1,29 @@
 -- A step costs at most the bytes of its line and one more.
-use Rattle.std.proofs.Common.{◌≡◌, ℕ, zero, suc, ℤ, ◌+◌, ◌-◌, ◌≤◌, ◌==◌, ◌&&◌, Bool, true, false, cond, List, [], ◌∷◌, length, take, Option, Some, None, IfSome, Result, Ok, Err, refl, subst, arith}
+use Rattle.std.proofs.Common.{◌≡◌, ℕ, zero, suc, ℤ, ◌+◌, ◌-◌, ◌≤◌, ◌==◌, ◌&&◌, Bool, true, false, cond, List, [], ◌∷◌, ◌++◌, length, take, take_while, Option, Some, None, IfSome, Result, Ok, Err, IfOk, refl, ap, ◌∙◌, subst, arith}
 use Rattle.std.specs.Prelude.{option_and_then, slice_index}
 use Rattle.std.specs.Option.{ok_or}
 use Rattle.std.specs.Result.{result_ok}
 use Rattle.std.proofs.lemmas.Bool.Decides.{nat_tests}
-use Rattle.std.proofs.lemmas.List.{length-take}
+use Rattle.std.proofs.lemmas.List.{length-append, length-take}
 use Rattle.iio_base.specs.Refusals.{ensure, ◌>>=◌, ◌>>◌}
 use Rattle.iio_text.specs.declared.lines.TheConstants.{MAX_LINE_BYTES}
 use Rattle.iio_text.specs.declared.refusals.Why.{Why}
 use Rattle.iio_text.specs.declared.refusals.Why.TheVariants as why
 use Rattle.iio_text.specs.Escape.{before, between_quotes, piece_of, piece_then, quoted_of, unescaped, unescaped_from}
 use Rattle.iio_text.specs.Lines.{fits_line, words_of_line}
-use Rattle.iio_text.specs.Words.{one_of, two_of}
+use Rattle.iio_text.specs.Words.{IsFirstWord, from_word, is_space, one_of, two_of}
 use Rattle.iio_attr.specs.Name.{is_name}
 use Rattle.iiod_grammar.specs.Command.{entry_of}
 use Rattle.iio_desc.specs.Description.{Description}
-use Rattle.iio_history.specs.Script.{clock_step, device_word, drop_step, feed_step, from_quote, handle_step, has_quote_first, moment_word, sense_step, step_by, step_of, step_of_words, step_words, trigger_step, trigger_word, unplug_step}
+use Rattle.iio_history.specs.Script.{begins_quote, clock_step, device_word, drop_step, feed_step, from_quote, handle_step, has_quote_first, keeps_names, moment_word, sense_step, step_by, step_of, step_of_words, step_words, trigger_step, trigger_word, unplug_step}
 use Rattle.iio_history.specs.Transcript.{Step, Feed, Fire, Poll}
 use Rattle.iio_system.specs.declared.step.Step.{Step as CodeStep}
 use Rattle.iio_system.specs.declared.step.Step.TheVariants as code
+use Rattle.iio_system.specs.Standing.{IsTaken}
 use Rattle.iio_system.specs.Step.{cost_of, step_view}
+use Rattle.iio_script.specs.Step.{feed_of, form_of}
+use Rattle.iio_script.specs.declared.step_word.StepWord.{StepWord}
+use Rattle.iio_script.specs.declared.step_word.StepWord.TheVariants as word
 use Rattle.iio_script.proofs.OutlineLemmas.{Each, entry_has}
 
 -- ---- unescaping makes no text longer
@@ -79,6 +83,14 @@ from_quote_few (b ∷ bs) = by_quote (b == 34) (from_quote_few bs)
     by_quote true few = omega arith
     by_quote false few = omega (arith, few)
 
+from_word_few : (text : List ℕ) → length (from_word text) ≤ length text
+from_word_few [] = omega arith
+from_word_few (b ∷ bs) = by_space (is_space b) (from_word_few bs)
+  where
+    by_space : (t : Bool) → length (from_word bs) ≤ length bs → length (cond t (from_word bs) (b ∷ bs)) ≤ suc (length bs)
+    by_space true few = omega (arith, few)
+    by_space false few = omega arith
+
 -- ---- the bytes that a step feeds
 
 abbrev feeds : Step → ℕ
@@ -89,60 +101,99 @@ abbrev FeedsFew : ℕ → Result Step Why → Type 0
 FeedsFew n (Ok step) = feeds step ≤ n
 FeedsFew n (Err refusal) = Unit {0}
 
-few_after : {A : Type 0} (n : ℕ) (read : Result A Why) (f : A → Result Step Why) → ((x : A) → FeedsFew n (f x)) → FeedsFew n (read >>= f)
-few_after n (Ok x) f each = each x
-few_after n (Err refusal) f each = tt
-
 few_behind : {A : Type 0} (n : ℕ) (read : Result A Why) (next : Result Step Why) → FeedsFew n next → FeedsFew n (read >> next)
 few_behind n (Ok x) next few = few
 few_behind n (Err refusal) next few = tt
+
+-- ---- a step that is no feed
+
+abbrev pub IsMove : Step → Type 0
+IsMove (Feed name bytes) = ⊥
+IsMove step = Unit {0}
+
+feeds_none : (n : ℕ) (step : Step) → IsMove step → feeds step ≤ n
+feeds_none n (Feed name bytes) move = absurd move
+feeds_none n step move = omega arith
+
+move_few : (n : ℕ) (read : Result Step Why) → IfOk read IsMove → FeedsFew n read
+move_few n (Ok step) move = feeds_none n step move
+move_few n (Err refusal) move = tt
+
+pub move_cost : (step : CodeStep) → IsMove (step_view step) → cost_of step ≡ 1
+move_cost (code.Feed name bytes) move = absurd move
+move_cost step move = refl
+
+pub move_taken : (names : List (List ℕ)) (step : CodeStep) → IsMove (step_view step) → IsTaken names step
+move_taken names (code.Feed name bytes) move = absurd move
+move_taken names step move = tt
+
+pub move_kept : (names : List (List ℕ)) (step : Step) → IsMove step → keeps_names names (Some step) ≡ true
+move_kept names (Feed name bytes) move = absurd move
+move_kept names step move = refl
+
+move_after : {A : Type 0} (read : Result A Why) (f : A → Result Step Why) → ((x : A) → IfOk (f x) IsMove) → IfOk (read >>= f) IsMove
+move_after (Ok x) f each = each x
+move_after (Err refusal) f each = tt
+
+move_behind : {A : Type 0} (read : Result A Why) (next : Result Step Why) → IfOk next IsMove → IfOk (read >> next) IsMove
+move_behind (Ok x) next move = move
+move_behind (Err refusal) next move = tt
 
 -- ---- the forms of steps
 
 abbrev Form : Type 0
 Form = Description → List (List ℕ) → Result Step Why
 
-abbrev FewForm : Form → Type 0
-FewForm form = (n : ℕ) (desc : Description) (words : List (List ℕ)) → FeedsFew n (form desc words)
+abbrev MoveForm : Form → Type 0
+MoveForm form = (desc : Description) (words : List (List ℕ)) → IfOk (form desc words) IsMove
 
-few_trigger_step : (step : ℕ → ℤ → Step) → ((t : ℕ) (m : ℤ) → feeds (step t m) ≡ 0) → FewForm (trigger_step step)
-few_trigger_step step none n desc words =
-    few_after n (ok_or (two_of words) why.Count) _ (λ pair. few_after n (trigger_word desc pair.0) _ (λ trigger. few_after n (moment_word pair.1) _
-    (λ moment. omega (arith, none trigger moment))))
+move_trigger_step : (step : ℕ → ℤ → Step) → ((t : ℕ) (m : ℤ) → IsMove (step t m)) → MoveForm (trigger_step step)
+move_trigger_step step move desc words =
+    move_after (ok_or (two_of words) why.Count) _ (λ pair. move_after (trigger_word desc pair.0) _ (λ trigger. move_after (moment_word pair.1) _
+    (λ moment. move trigger moment)))
 
-few_handle_step : FewForm handle_step
-few_handle_step n desc words =
-    few_after n (ok_or (two_of words) why.Count) _
-    (λ pair. few_after n (trigger_word desc pair.0) _ (λ trigger. few_after n (device_word desc pair.1) _ (λ device. omega arith)))
+move_handle_step : MoveForm handle_step
+move_handle_step desc words =
+    move_after (ok_or (two_of words) why.Count) _
+    (λ pair. move_after (trigger_word desc pair.0) _ (λ trigger. move_after (device_word desc pair.1) _ (λ device. tt)))
 
-few_sense_step : FewForm sense_step
-few_sense_step n desc words =
-    few_after n (ok_or (two_of words) why.Count) _
-    (λ pair. few_after n (device_word desc pair.0) _ (λ device. few_after n (moment_word pair.1) _ (λ moment. omega arith)))
+move_sense_step : MoveForm sense_step
+move_sense_step desc words =
+    move_after (ok_or (two_of words) why.Count) _
+    (λ pair. move_after (device_word desc pair.0) _ (λ device. move_after (moment_word pair.1) _ (λ moment. tt)))
 
-few_clock_step : FewForm clock_step
-few_clock_step n desc words = few_after n (ok_or (one_of words) why.Count) _ (λ moment. few_after n (moment_word moment) _ (λ moment. omega arith))
+move_clock_step : MoveForm clock_step
+move_clock_step desc words = move_after (ok_or (one_of words) why.Count) _ (λ moment. move_after (moment_word moment) _ (λ moment. tt))
 
-few_drop_step : FewForm drop_step
-few_drop_step n desc words = few_after n (ok_or (one_of words) why.Count) _ (λ name. few_behind n (ensure (is_name name) why.Name) _ (omega arith))
+move_drop_step : MoveForm drop_step
+move_drop_step desc words = move_after (ok_or (one_of words) why.Count) _ (λ name. move_behind (ensure (is_name name) why.Name) _ tt)
 
-few_unplug_step : FewForm unplug_step
-few_unplug_step n desc words = few_after n (ok_or (one_of words) why.Count) _ (λ device. few_after n (device_word desc device) _ (λ device. omega arith))
+move_unplug_step : MoveForm unplug_step
+move_unplug_step desc words = move_after (ok_or (one_of words) why.Count) _ (λ device. move_after (device_word desc device) _ (λ device. tt))
 
-few_forms : Each FewForm step_words
-few_forms = (
-  few_trigger_step (λ t m. Fire t m) (λ t m. refl),
+pub form_moves : (w : StepWord) (desc : Description) (words : List (List ℕ)) → IfOk (form_of w desc words) IsMove
+form_moves word.Fire = move_trigger_step (λ t m. Fire t m) (λ t m. tt)
+form_moves word.Poll = move_trigger_step (λ t m. Poll t m) (λ t m. tt)
+form_moves word.Handle = move_handle_step
+form_moves word.Sense = move_sense_step
+form_moves word.Clock = move_clock_step
+form_moves word.Drop = move_drop_step
+form_moves word.Unplug = move_unplug_step
+
+move_forms : Each MoveForm step_words
+move_forms = (
+  form_moves word.Fire,
   (
-    few_trigger_step (λ t m. Poll t m) (λ t m. refl),
+    form_moves word.Poll,
     (
-      few_handle_step,
+      form_moves word.Handle,
       (
-        few_sense_step,
+        form_moves word.Sense,
         (
-          few_clock_step,
+          form_moves word.Clock,
           (
-            few_drop_step,
-            (few_unplug_step, tt),
+            form_moves word.Drop,
+            (form_moves word.Unplug, tt),
           ),
         ),
       ),
@@ -164,10 +215,19 @@ few_feed_step line name words =
     (few_quoted (length line) name (quoted_of (from_quote line))
     (few_weaker (length (from_quote line)) (length line) (quoted_of (from_quote line)) (quoted_few (from_quote line)) (from_quote_few line))))
 
-few_step_by : (desc : Description) (line word : List ℕ) (words : List (List ℕ)) (form : Option Form) → IfSome form FewForm
+-- a feed has at most as many bytes as the words after its name
+pub few_fed : (name words named bytes : List ℕ) → feed_of name (from_word words) ≡ Ok (Feed named bytes) → length bytes ≤ length words
+few_fed name words named bytes read =
+    let few : FeedsFew (length words) (feed_of name (from_word words)) =
+    few_behind (length words) (ensure (is_name name) why.Word) _ (few_behind (length words) (ensure (begins_quote (from_word words)) why.Count) _
+    (few_quoted (length words) name (quoted_of (from_word words))
+    (few_weaker (length (from_word words)) (length words) (quoted_of (from_word words)) (quoted_few (from_word words)) (from_word_few words)))) in
+    subst (FeedsFew (length words)) read few
+
+few_step_by : (desc : Description) (line word : List ℕ) (words : List (List ℕ)) (form : Option Form) → IfSome form MoveForm
     → FeedsFew (length line) (step_by desc line word words form)
-few_step_by desc line word words None few = few_feed_step line word words
-few_step_by desc line word words (Some form) few = few (length line) desc words
+few_step_by desc line word words None move = few_feed_step line word words
+few_step_by desc line word words (Some form) move = move_few (length line) (form desc words) (move desc words)
 
 -- ---- the step of a line
 
@@ -184,7 +244,7 @@ few_of_words : (desc : Description) (line : List ℕ) (words : List (List ℕ)) 
 few_of_words desc line [] = tt
 few_of_words desc line (word ∷ words) =
     some_few (length line) (step_by desc line word words (entry_of step_words word))
-    (few_step_by desc line word words (entry_of step_words word) (entry_has FewForm step_words word few_forms))
+    (few_step_by desc line word words (entry_of step_words word) (entry_has MoveForm step_words word move_forms))
 
 few_by_words : (desc : Description) (line : List ℕ) (read : Result (List (List ℕ)) Why)
     → StepFeedsFew (length line) (read >>= λ words. step_of_words desc line words)
@@ -213,3 +273,17 @@ cost_of_line desc line step said =
     let within : length line ≤ MAX_LINE_BYTES = grind (arith, nat_tests, fits) in
     let few : feeds (step_view step) ≤ length line = subst (StepFeedsFew (length line)) said (few_by_words desc line (words_of_line line)) in
     cost_by step MAX_LINE_BYTES (omega (arith, few, within))
+
+short_words : (t : Bool) (next : Result (List (List ℕ)) Why) (words : List (List ℕ)) → (ensure t why.Long >> next) ≡ Ok words → t ≡ true
+short_words true next words h = refl
+short_words false next words h = cc
+
+-- what stands after the first word of a line that isn't too long
+pub few_after_word : (line word rest : List ℕ) (words : List (List ℕ)) → words_of_line line ≡ Ok words → IsFirstWord is_space line word rest
+    → length rest ≤ MAX_LINE_BYTES
+few_after_word line word rest words said first =
+    let fits : fits_line line ≡ true = short_words (fits_line line) _ words said in
+    let within : length line ≤ MAX_LINE_BYTES = grind (arith, nat_tests, fits) in
+    let parts : length line ≡ length (take_while is_space line) + length (word ++ rest) =
+    ap length first.parts ∙ length-append (take_while is_space line) (word ++ rest) in
+    omega (arith, within, parts, length-append word rest)

@@ -1,24 +1,26 @@
 -- The lines of a script, one after another: what was printed so far, and what the lines after them print.
-use Rattle.std.proofs.Common.{◌≡◌, ℕ, ◌+◌, ◌||◌, Bool, true, false, cond, List, [], ◌∷◌, ◌++◌, length, Some, None, Ok, Err, nat_lt, refl, sym, ap, ◌∙◌, subst, arith, append_assoc, append-nil}
+use Rattle.std.proofs.Common.{◌≡◌, ℕ, ◌+◌, ◌||◌, Bool, true, false, cond, List, [], ◌∷◌, ◌++◌, length, Option, Some, None, Result, Ok, Err, IfOk, ◌⊎◌, inl, inr, nat_lt, refl, sym, ap, ◌∙◌, subst, arith, append_assoc, append-nil}
 use Rattle.std.specs.Str.{bytes_eq}
 use Rattle.std.proofs.lemmas.List.{length-append}
 use Rattle.std.proofs.lemmas.List.Folds.{list_any-append}
 use Rattle.iio_text.specs.declared.refusals.Why.{Why}
 use Rattle.iio_text.specs.declared.refusals.Why.TheVariants.{Limit, Long}
-use Rattle.iio_text.specs.Lines.{fits_line}
+use Rattle.iio_base.specs.Refusals.{ensure, ◌>>=◌, ◌>>◌}
+use Rattle.iio_text.specs.Lines.{fits_line, words_of_line}
+use Rattle.iiod_grammar.specs.Command.{entry_of}
 use Rattle.iio_sensor.specs.Driver.{Driver}
 use Rattle.iio_desc.specs.Description.{Description}
 use Rattle.iio_device.specs.declared.plug.Plug.{Plug}
 use Rattle.iio_history.specs.Event.{Event}
 use Rattle.iio_history.specs.Outcome.{Outcome, only_ending, outcome_of_script}
 use Rattle.iio_history.specs.Registry.{Setup}
-use Rattle.iio_history.specs.Script.{Ending, Finished, Refused, Script, ending_text, first_step, is_known, keeps_names, max_names, names_after, script_from, script_text, step_of}
+use Rattle.iio_history.specs.Script.{Ending, Finished, Refused, Script, ending_text, first_step, is_known, keeps_names, max_names, names_after, script_from, script_text, step_by, step_of, step_of_words, step_words}
 use Rattle.iio_history.specs.Transcript.{Step, Feed, Fire, Poll, Handle, Sense, SetClock, Drop, Unplug, lines_of_step, transcript, with_step, with_steps}
 use Rattle.iio_system.specs.declared.system.System.{System}
 use Rattle.iio_system.specs.Standing.{StandsFor, has_room, names_by, names_with}
 use Rattle.iio_script.specs.declared.status.Status.{Status}
 use Rattle.iio_script.specs.Ends.{Finishes, status_of}
-use Rattle.iio_script.specs.Plays.{AreSame, IsFrontOf, Plays, text_after}
+use Rattle.iio_script.specs.Plays.{AreSame, IsFrontOf, Performs, Plays, step_kept, text_after}
 
 -- ---- names
 
@@ -95,6 +97,50 @@ pub is_over : (desc : Description) (ending : Ending) (names : List (List ℕ)) (
     → keeps_names names (Some step) ≡ false → script_from desc ending names n (line ∷ lines) ≡ record { steps = []; ending = Refused n Limit }
 is_over desc ending names n line lines step said over = rw (said, over, script_from) refl
 
+-- ---- the step of a line, by its words
+
+pub says_nothing : (desc : Description) (line : List ℕ) → words_of_line line ≡ Ok [] → step_of desc line ≡ Ok None
+says_nothing desc line said = ap (λ (r : Result (List (List ℕ)) Why). r >>= λ words. step_of_words desc line words) said
+
+pub says_wrong : (desc : Description) (line : List ℕ) (why : Why) → words_of_line line ≡ Err why → step_of desc line ≡ Err why
+says_wrong desc line why said = ap (λ (r : Result (List (List ℕ)) Why). r >>= λ words. step_of_words desc line words) said
+
+pub says_words : (desc : Description) (line word : List ℕ) (words : List (List ℕ)) → words_of_line line ≡ Ok (word ∷ words)
+    → step_of desc line ≡ (step_by desc line word words (entry_of step_words word) >>= λ step. Ok (Some step))
+says_words desc line word words said = ap (λ (r : Result (List (List ℕ)) Why). r >>= λ words. step_of_words desc line words) said
+
+-- ---- a step that was read
+
+abbrev read_as : Step → Result Step Why
+read_as step = Ok step
+
+abbrev refused_as : Why → Result Step Why
+refused_as why = Err why
+
+-- a step that is refused: when it is read, or since it feeds a further name
+abbrev IsStopped : List (List ℕ) → Result Step Why → Why → Type 0
+IsStopped names reading why =
+    (reading ≡ refused_as why) ⊎ ((step : Step) × ((reading ≡ read_as step) × ((keeps_names names (Some step) ≡ false) × (Limit ≡ why))))
+
+kept_by : (names : List (List ℕ)) (read step : Step) (t : Bool) → keeps_names names (Some read) ≡ t → (ensure t Limit >> read_as read) ≡ read_as step
+    → (read_as read ≡ read_as step) × (keeps_names names (Some step) ≡ true)
+kept_by names read step true is h = (h, subst (λ (r : Result Step Why). IfOk r (λ step. keeps_names names (Some step) ≡ true)) h is)
+kept_by names read step false is h = cc
+
+kept_step : (names : List (List ℕ)) (reading : Result Step Why) (step : Step) → step_kept names reading ≡ read_as step
+    → (reading ≡ read_as step) × (keeps_names names (Some step) ≡ true)
+kept_step names (Err refusal) step h = cc
+kept_step names (Ok read) step h = kept_by names read step (keeps_names names (Some read)) refl h
+
+stopped_by : (names : List (List ℕ)) (read : Step) (why : Why) (t : Bool) → keeps_names names (Some read) ≡ t
+    → (ensure t Limit >> read_as read) ≡ refused_as why → IsStopped names (read_as read) why
+stopped_by names read why true is h = inl h
+stopped_by names read why false is h = inr (read, (refl, (is, cc)))
+
+stopped_step : (names : List (List ℕ)) (reading : Result Step Why) (why : Why) → step_kept names reading ≡ refused_as why → IsStopped names reading why
+stopped_step names (Err refusal) why h = inl h
+stopped_step names (Ok read) why h = stopped_by names read why (keeps_names names (Some read)) refl h
+
 -- ---- a run that has reached a line
 
 module _ {X : Type 0} {V : X → Type 0} (driver : Plug X V → Driver) where
@@ -162,6 +208,26 @@ module _ {X : Type 0} {V : X → Type 0} (driver : Plug X V → Driver) where
             ∙ sym (ap (λ ls. with_steps s [] (script_from s.desc ending [] first ls).steps) (append_assoc given (line ∷ []) lines));
       }
 
+  pub performs_line : {A : Type 0} (r : Result (Option Why) A) (reading : Result Step Why) (other : List ℕ → Result Step Why) (x x' : System X V)
+      (before after : List ℕ) (Of : List ℕ → Type 0) → ((line : List ℕ) → Of line → other line ≡ reading)
+      → IfOk r (Performs driver reading x x' before after)
+      → IfOk r (λ why. (line : List ℕ) → Of line → Performs driver (other line) x x' before after why)
+  performs_line (Err e) reading other x x' before after Of same performs = tt
+  performs_line (Ok why) reading other x x' before after Of same performs = λ line of.
+      subst (λ (r : Result Step Why). Performs driver r x x' before after why) (sym (same line of)) performs
+
+  -- .. that was read
+  pub plays_step : (s : Setup) (x x' : System X V) (sent before after : List ℕ) (first n : ℕ) (given : List (List ℕ)) (line : List ℕ)
+      (reading : Result Step Why) → step_of s.desc line ≡ (reading >>= λ step. Ok (Some step)) → Performs driver reading x x' before after None
+      → Plays driver s x (sent ++ before) first n given → Plays driver s x' (sent ++ after) first (n + 1) (given ++ line ∷ [])
+  plays_step s x x' sent before after first n given line reading said performs plays =
+      let step = performs.0 in
+      let performed = performs.1.1 in
+      let kept = kept_step (names_by x) reading step performs.1.0 in
+      plays_on s x x' (sent ++ before) (sent ++ after) first n given line step
+      (said ∙ ap (λ (r : Result Step Why). r >>= λ step. Ok (Some step)) kept.0) kept.1
+      (λ h stands. let made = performed.lines s h stands in (ap (λ t. sent ++ t) made.0 ∙ sym (append_assoc sent before _), made.1)) performed.names plays
+
   -- ---- the end
 
   ends_with : (s : Setup) (x : System X V) (text after : List ℕ) (first n : ℕ) (given lines : List (List ℕ)) (ending last : Ending) (status : Status)
@@ -195,6 +261,24 @@ module _ {X : Type 0} {V : X → Type 0} (driver : Plug X V → Driver) where
   plays_over s x text after first n given line lines step ending status said over plays f =
       ends_with s x text after first n given (line ∷ lines) ending (Refused n Limit) status plays
       (is_over s.desc ending plays.names n line lines step said (same_kept plays.names (names_by x) step plays.same ∙ over)) f
+
+  -- .. or of which the step is refused
+  pub plays_stopped : (s : Setup) (x : System X V) (text after : List ℕ) (first n : ℕ) (given : List (List ℕ)) (line : List ℕ) (lines : List (List ℕ))
+      (reading : Result Step Why) (why : Why) (ending : Ending) (status : Status)
+      → step_of s.desc line ≡ (reading >>= λ step. Ok (Some step)) → step_kept (names_by x) reading ≡ Err why → Plays driver s x text first n given
+      → Finishes (only_ending (Refused n why)) status text after
+      → Finishes (outcome_of_script s (script_from s.desc ending [] first (given ++ line ∷ lines))) status [] after
+  plays_stopped s x text after first n given line lines reading why ending status said stopped plays f =
+      by_cause (stopped_step (names_by x) reading why stopped)
+    where
+      by_cause : IsStopped (names_by x) reading why → Finishes (outcome_of_script s (script_from s.desc ending [] first (given ++ line ∷ lines))) status [] after
+      by_cause (inl wrong) =
+          plays_refused s x text after first n given line lines why ending status
+          (said ∙ ap (λ (r : Result Step Why). r >>= λ step. Ok (Some step)) wrong) plays f
+      by_cause (inr over) =
+          plays_over s x text after first n given line lines over.0 ending status
+          (said ∙ ap (λ (r : Result Step Why). r >>= λ step. Ok (Some step)) over.1.0) over.1.1.0 plays
+          (subst (λ (why : Why). Finishes (only_ending (Refused n why)) status text after) (sym over.1.1.1) f)
 
   -- a line that is too long
   pub plays_long : (s : Setup) (x : System X V) (text after : List ℕ) (first n : ℕ) (given : List (List ℕ)) (line : List ℕ) (lines : List (List ℕ))

@@ -1,5 +1,8 @@
 -- A run that has reached a line of a script.
 use Rattle.std.specs.Prelude.{◌≡◌, ◌⊎◌, ℕ, ◌+◌, ◌≤◌, List, [], ◌∷◌, ◌++◌, length, take, drop, Option, Some, None, IfSome, Result, Ok, Err}
+use Rattle.iio_base.specs.Refusals.{ensure, ◌>>=◌, ◌>>◌}
+use Rattle.iio_text.specs.declared.refusals.Why.{Why}
+use Rattle.iio_text.specs.declared.refusals.Why.TheVariants as why
 use Rattle.iio_text.specs.Lines.{lines_of}
 use Rattle.iio_sensor.specs.Driver.{Driver}
 use Rattle.iio_device.specs.declared.plug.Plug.{Plug}
@@ -7,14 +10,21 @@ use Rattle.iio_history.specs.Event.{Event}
 use Rattle.iio_history.specs.Input.{ended_part}
 use Rattle.iio_history.specs.Outcome.{Outcome, outcome_of_script}
 use Rattle.iio_history.specs.Registry.{Setup}
-use Rattle.iio_history.specs.Script.{Ending, Finished, Script, ending_text, is_known, script_from, script_text}
-use Rattle.iio_history.specs.Transcript.{transcript, with_steps}
+use Rattle.iio_history.specs.Script.{Ending, Finished, Script, ending_text, is_known, keeps_names, script_from, script_text}
+use Rattle.iio_history.specs.Transcript.{Step, transcript, with_steps}
 use Rattle.iio_system.specs.declared.system.System.{System}
-use Rattle.iio_system.specs.Standing.{StandsFor, names_by}
+use Rattle.iio_system.specs.Standing.{IsPerformed, StandsFor, names_by}
 use Rattle.iio_script.specs.declared.status.Status.{Status}
 use Rattle.iio_script.specs.declared.status.Status.TheVariants.{Done, Memory, ReadFault, Refused, TooLong, Usage, WriteFault}
 use Rattle.iio_script.specs.Ends.{Finishes, Sends}
 use Rattle.iio_script.specs.LineReader.{TakesNear, piece_size}
+
+-- a step that was read, if the name that it feeds is one of those that a script may have
+abbrev pub step_kept : List (List ℕ) → Result Step Why → Result Step Why
+step_kept names reading = do
+  step ← reading
+  ensure (keeps_names names (Some step)) why.Limit
+  Ok step
 
 -- the same names, in any order
 pub record AreSame (one other : List (List ℕ)) : Type 0 where
@@ -39,6 +49,11 @@ module _ {X : Type 0} {V : X → Type 0} (driver : Plug X V → Driver) where
         → (script_from s.desc ending names n lines).ending ≡ (script_from s.desc ending [] first (given ++ lines)).ending
     pub history : (ending : Ending) (lines : List (List ℕ))
         → with_steps s done (script_from s.desc ending names n lines).steps ≡ with_steps s [] (script_from s.desc ending [] first (given ++ lines)).steps
+
+  -- what a step that was read makes of a system, and of what was printed: it is performed; or it is refused, and nothing changes
+  abbrev pub Performs : Result Step Why → (x x' : System X V) (before after : List ℕ) → Option Why → Type 0
+  Performs reading x x' before after None = (step : Step) × ((step_kept (names_by x) reading ≡ Ok step) × IsPerformed driver step x x' before after)
+  Performs reading x x' before after (Some why) = (step_kept (names_by x) reading ≡ Err why) × ((x' ≡ x) × (after ≡ before))
 
   -- a line was played; or it is refused, and the end of the script was printed
   abbrev pub PlaysLine : Setup → System X V → (text : List ℕ) (first n : ℕ) (given : List (List ℕ)) → (line : List ℕ) → Option Status → Type 0

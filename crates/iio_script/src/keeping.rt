@@ -1,6 +1,6 @@
 //! Playing an input for the world of one connection: what it prints, without the steps of other connections.
 
-ghost use Rattle.std.specs.Prelude.{◌≡◌, ◌+◌, ◌*◌, ◌^◌, ◌≤◌, ◌<◌, [], ◌++◌, true, ℕ, Err, IfOk, IfSome, IfNone, None, List, OnOk, length, map, if◌then◌else◌};
+ghost use Rattle.std.specs.Prelude.{◌≡◌, ◌+◌, ◌*◌, ◌^◌, ◌≤◌, ◌<◌, [], ◌++◌, true, ℕ, Err, IfOk, IfSome, IfNone, None, Some, List, OnOk, length, map, if◌then◌else◌};
 ghost use Rattle.iio_base.specs.Faults.{Rose};
 ghost use Rattle.iio_io.specs.Bytes.{TakesAtMost};
 ghost use Rattle.iio_desc.specs.Description.{heads_of};
@@ -11,6 +11,7 @@ ghost use Rattle.iio_history.specs.Input.{input_limit, is_overlong, scanned_line
 ghost use Rattle.iio_history.specs.Outcome.{last_ending};
 ghost use Rattle.iio_history.specs.Registry.{Setup};
 ghost use Rattle.iio_bench.specs.Bench.{front_of};
+ghost use Rattle.iio_history.specs.Script.{keeps_names};
 ghost use Rattle.iio_system.specs.Standing.{IsTaken, StandsFor, names_by, names_with};
 ghost use Rattle.iio_system.specs.Step.{IsValid, cost_of, step_view};
 ghost use Rattle.iio_worlds.specs.Bystanders.{only_bystanders};
@@ -23,7 +24,6 @@ ghost use Rattle.iio_script.specs.Outline.{FindsSame};
 use crate::line_reader::{Found, LineReader};
 use crate::opening::{Opening, open};
 use crate::outline::outline;
-use crate::script::{keep_room, takes};
 use crate::step::read_step_into;
 use iio_base::Mem;
 use iio_desc::Desc;
@@ -65,6 +65,23 @@ fn kept_len(step: &Step, watched: &[u8], at: usize, len: usize) -> usize
         return at;
     }
     len
+}
+
+// Whether a step leaves the number of names within its limit.
+fn takes(system: &System, step: &Step) -> bool
+    ensures { result ≡ keeps_names (names_by system.now) (Some (step_view step.now)) }
+{
+    match step {
+        Step::Feed(name, _) => system.takes(name),
+        _ => true,
+    }
+}
+
+// Keeps the bytes of a feed as room for those of the next.
+fn keep_room(step: Step, room: &mut Vec<u8>) {
+    if let Step::Feed(_, bytes) = step {
+        *room = bytes.into_bytes();
+    }
 }
 
 // Performs the step of a line, and keeps its lines unless it is another connection's. Once a step has offended, further ones

@@ -9,49 +9,141 @@ ghost use Rattle.iio_device.specs.declared.plug.Plug.TheVariants.{Given};
 ghost use Rattle.iio_history.specs.Input.{input_limit, is_overlong, scanned_lines};
 ghost use Rattle.iio_history.specs.Outcome.{last_ending, outcome_of, outcome_of_script};
 ghost use Rattle.iio_history.specs.Registry.{Setup};
-ghost use Rattle.iio_history.specs.Script.{keeps_names, script_from};
+ghost use Rattle.iio_history.specs.Script.{script_from, step_by, step_words};
 ghost use Rattle.iio_history.specs.Transcript.{with_steps};
 ghost use Rattle.iio_bench.specs.Bench.{front_of};
 ghost use Rattle.iio_system.specs.Standing.{StandsFor, names_by};
-ghost use Rattle.iio_system.specs.Step.{step_view};
+ghost use Rattle.iio_script.specs.Step.{feed_of, form_of};
+ghost use Rattle.iio_script.specs.declared.step_word.StepWord.{StepWord};
+ghost use Rattle.iio_text.specs.Words.{IsFirstWord, from_word, is_space, words_of};
+ghost use Rattle.iiod_grammar.specs.Command.{entry_of};
 ghost use Rattle.iio_script.specs.Ends.{HasStatus, Sends, ShowsFaults, Writes};
 ghost use Rattle.iio_script.specs.LineReader.{Follows, IsHand, NeedsMore, Shows};
 ghost use Rattle.iio_script.specs.Outline.{FindsSame};
 ghost use Rattle.iio_script.specs.Taken.{Runs, WritesFirst, WritesLines};
-ghost use Rattle.iio_script.specs.Plays.{AnswersScript, EndsScript, EndsSteps, IsOver, IsRefusedWith, Plays, PlaysLine, TakesFor, WritesText};
+ghost use Rattle.iio_script.specs.Plays.{AnswersScript, EndsScript, EndsSteps, IsOver, IsRefusedWith, Performs, Plays, PlaysLine, TakesFor, WritesText};
 
 use crate::ends::{end_cut, end_refused, end_with, push_end, push_refused, write_out};
 use crate::line_reader::{Found, LineReader};
 use crate::opening::{Opening, open};
 use crate::outline::outline;
 use crate::status::Status;
-use crate::step::read_step_into;
+use crate::step::{read_feed, read_words, trigger_and_moment};
+use crate::step_word::StepWord;
 use iio_base::Mem;
 use iio_desc::Desc;
 use iio_device::Plug;
 use iio_io::{ReadEnd, Sink, Source};
 use iio_sensor::Sensor;
-use iio_system::{Step, System};
-use iio_text::{LineFault, Why};
+use iio_system::System;
+use iio_text::{LineFault, Why, first_word};
 use std::alloc::Global;
 
 // The maximum number of bytes that are kept back as long as no read comes between.
 const KEPT: usize = 61_440;
 
-/// Whether a step leaves the number of names within its limit.
-pub(crate) fn takes(system: &System, step: &Step) -> bool
-    ensures { result ≡ keeps_names (names_by system.now) (Some (step_view step.now)) }
+// Plays a feed, given by its first word and the words after it; `bytes` is room for the bytes that it feeds. If it is refused,
+// the reason is returned. These three are functions of their own, so that a line doesn't pay for the locals of another.
+#[inline(never)]
+fn play_feed(
+    alloc: Global,
+    bytes: &mut Vec<u8>,
+    system: &mut System,
+    name: &[u8],
+    words: &[u8],
+    out: &mut Vec<u8>,
+) -> Result<Option<Why>, Mem>
+    requires few { system.old.used + (1 + length words.now) < 2 ^ 56 }
+    ensures front { front_of system.new.bench ≡ front_of system.old.bench }
+    ensures used { IfOk result (λ _. system.new.used ≤ system.old.used + (1 + length words.now)) }
+    ensures performs { IfOk result (Performs ⟦<Plug as Sensor>⟧.driver (feed_of name.now (from_word words.now)) system.old system.new out.old.items out.new.items) }
 {
-    match step {
-        Step::Feed(name, _) => system.takes(name),
-        _ => true,
+    let name = match read_feed(alloc, bytes, name, words) {
+        Ok(name) => name,
+        Err(LineFault::Why(why)) => return Ok(Some(why)),
+        Err(LineFault::Mem) => return Err(Mem),
+    };
+    if !system.takes(&name) {
+        return Ok(Some(Why::Limit));
+    }
+    system.feed(&name, bytes, out)?;
+    Ok(None)
+}
+
+// Plays a fire, given by the words after its first one. If it is refused, the reason is returned.
+#[inline(never)]
+fn play_fire(
+    system: &mut System,
+    names: &Desc,
+    words: &[u8],
+    out: &mut Vec<u8>,
+) -> Result<Option<Why>, Mem>
+    requires triggers { length names.now.triggers ≡ length (front_of system.old.bench).triggers }
+    requires few { system.old.used + 1 < 2 ^ 56 }
+    ensures front { front_of system.new.bench ≡ front_of system.old.bench }
+    ensures used { IfOk result (λ _. system.new.used ≤ system.old.used + 1) }
+    ensures performs { IfOk result (Performs ⟦<Plug as Sensor>⟧.driver (form_of StepWord.Fire names.now (words_of is_space words.now)) system.old system.new
+        out.old.items out.new.items) }
+{
+    match trigger_and_moment(names, words) {
+        Err(why) => Ok(Some(why)),
+        Ok((trigger, moment)) => {
+            system.fire(trigger, moment, out)?;
+            Ok(None)
+        }
     }
 }
 
-/// Keeps the bytes of a feed as room for those of the next.
-pub(crate) fn keep_room(step: Step, room: &mut Vec<u8>) {
-    if let Step::Feed(_, bytes) = step {
-        *room = bytes.into_bytes();
+// Plays a step that is no feed, given by its first word and the words after it. If it is refused, the reason is returned.
+#[inline(never)]
+fn play_step(
+    system: &mut System,
+    names: &Desc,
+    word: StepWord,
+    words: &[u8],
+    out: &mut Vec<u8>,
+) -> Result<Option<Why>, Mem>
+    requires triggers { length names.now.triggers ≡ length (front_of system.old.bench).triggers }
+    requires devices { length (heads_of names.now) ≡ length (front_of system.old.bench).devices }
+    requires few { system.old.used + 1 < 2 ^ 56 }
+    ensures front { front_of system.new.bench ≡ front_of system.old.bench }
+    ensures used { IfOk result (λ _. system.new.used ≤ system.old.used + 1) }
+    ensures performs { IfOk result (Performs ⟦<Plug as Sensor>⟧.driver (form_of word names.now (words_of is_space words.now)) system.old system.new
+        out.old.items out.new.items) }
+{
+    match read_words(names, word, words) {
+        Err(why) => Ok(Some(why)),
+        Ok(step) => {
+            system.step(&step, out)?;
+            Ok(None)
+        }
+    }
+}
+
+// Plays a line, given by its first word and the words after it. If it is refused, the reason is returned.
+#[inline(always)]
+fn play_words(
+    alloc: Global,
+    room: &mut Vec<u8>,
+    system: &mut System,
+    names: &Desc,
+    word: &[u8],
+    words: &[u8],
+    out: &mut Vec<u8>,
+) -> Result<Option<Why>, Mem>
+    requires triggers { length names.now.triggers ≡ length (front_of system.old.bench).triggers }
+    requires devices { length (heads_of names.now) ≡ length (front_of system.old.bench).devices }
+    requires few { system.old.used + (1 + length words.now) < 2 ^ 56 }
+    ensures front { front_of system.new.bench ≡ front_of system.old.bench }
+    ensures used { IfOk result (λ _. system.new.used ≤ system.old.used + (1 + length words.now)) }
+    ensures performs { IfOk result (λ why. (line : List ℕ) → IsFirstWord is_space line word.now words.now
+        → Performs ⟦<Plug as Sensor>⟧.driver (step_by names.now line word.now (words_of is_space words.now) (entry_of step_words word.now)) system.old
+        system.new out.old.items out.new.items why) }
+{
+    match StepWord::of(word) {
+        None => play_feed(alloc, room, system, word, words, out),
+        Some(StepWord::Fire) => play_fire(system, names, words, out),
+        Some(first) => play_step(system, names, first, words, out),
     }
 }
 
@@ -76,20 +168,15 @@ fn play_line(
         → PlaysLine ⟦<Plug as Sensor>⟧.driver s system.new (sent ++ out.new.items) first number given line.now ended) }
     ensures refused { IfOk result (λ ended. IfSome ended (IsRefusedWith number)) }
 {
-    let said = match read_step_into(alloc, room, names, line) {
-        Ok(said) => said,
-        Err(LineFault::Why(why)) => return Ok(Some(push_refused(alloc, out, number, why)?)),
-        Err(LineFault::Mem) => return Err(Mem),
+    let (word, words) = match first_word(line) {
+        Ok(Some(parts)) => parts,
+        Ok(None) => return Ok(None),
+        Err(why) => return Ok(Some(push_refused(alloc, out, number, why)?)),
     };
-    let Some(step) = said else {
-        return Ok(None);
-    };
-    if !takes(system, &step) {
-        return Ok(Some(push_refused(alloc, out, number, Why::Limit)?));
+    match play_words(alloc, room, system, names, word, words, out)? {
+        None => Ok(None),
+        Some(why) => Ok(Some(push_refused(alloc, out, number, why)?)),
     }
-    system.step(&step, out)?;
-    keep_room(step, room);
-    Ok(None)
 }
 
 // Writes what is kept, if bytes have to be read for the next line or much is kept.

@@ -3,7 +3,7 @@
 ghost use Rattle.std.specs.Prelude.{◌≡◌, ◌<◌, length, option_map, IfOk, IfErr, IfSome, MatchResult, Ok, Err, List, ℕ, ℤ};
 ghost use Rattle.iio_desc.specs.Description.{Description, heads_of};
 ghost use Rattle.iio_history.specs.Script.{clock_step, drop_step, handle_step, sense_step, step_by, step_of, trigger_step, unplug_step, device_word, moment_word, trigger_word, step_words};
-ghost use Rattle.iio_history.specs.Transcript.{Step as HistoryStep};
+ghost use Rattle.iio_history.specs.Transcript.{Feed, Step as HistoryStep};
 ghost use Rattle.iio_system.specs.Step.{IsValid, step_view};
 ghost use Rattle.iio_script.specs.Step.{feed_of, form_of, read_view};
 ghost use Rattle.iio_text.specs.LineFault.{Tells};
@@ -43,9 +43,9 @@ fn moment_word(word: &[u8]) -> Result<i64, Why>
     read_int(word).ok_or(Why::Number)
 }
 
-// `TRIGGER T`
-#[inline]
-fn trigger_and_moment(desc: &Desc, words: &[u8]) -> Result<(u32, i64), Why>
+/// Reads the words of a fire or a poll, `TRIGGER T`.
+#[inline(always)]
+pub(crate) fn trigger_and_moment(desc: &Desc, words: &[u8]) -> Result<(u32, i64), Why>
     ensures value { (step : ℕ → ℤ → HistoryStep) → MatchResult result
         (λ r. trigger_step step desc.now (words_of is_space words.now) ≡ Ok (step r.0 r.1))
         (λ why. trigger_step step desc.now (words_of is_space words.now) ≡ Err why) }
@@ -114,8 +114,8 @@ fn read_unplug(desc: &Desc, words: &[u8]) -> Result<Step, Why>
     Ok(Step::Unplug(device))
 }
 
-// Reads a step from the words after its first one.
-fn read_words(desc: &Desc, word: StepWord, words: &[u8]) -> Result<Step, Why>
+/// Reads a step from its first word and the words after it.
+pub(crate) fn read_words(desc: &Desc, word: StepWord, words: &[u8]) -> Result<Step, Why>
     ensures value { read_view result ≡ form_of word desc.now (words_of is_space words.now) }
     ensures valid { IfOk result (IsValid (length desc.now.triggers) (length (heads_of desc.now))) }
 {
@@ -136,8 +136,35 @@ fn read_words(desc: &Desc, word: StepWord, words: &[u8]) -> Result<Step, Why>
     }
 }
 
-// `NAME "bytes"`, from the name and the words after it. The step takes the room for its bytes.
-fn read_feed(
+/// Reads a feed, `NAME "bytes"`, from its first word and the words after it. `bytes` gets the bytes that are fed, whatever was in
+/// it.
+#[inline(always)]
+pub(crate) fn read_feed(
+    alloc: Global,
+    bytes: &mut Vec<u8>,
+    name: &[u8],
+    words: &[u8],
+) -> Result<Name, LineFault>
+    ensures ok { IfOk result (λ named. feed_of name.now (from_word words.now) ≡ Ok (Feed named bytes.new.items)) }
+    ensures err { IfErr result (λ e. Tells e (feed_of name.now (from_word words.now))) }
+{
+    let name = Name::new(name).ok_or(Why::Word)?;
+    let quoted = from_word(words);
+    if !matches!(quoted, [b'"', ..]) {
+        return Err(LineFault::Why(Why::Count));
+    }
+    let inner = between_quotes(quoted).ok_or(Why::Text)?;
+    let room = mem::replace(bytes, Vec::new(alloc));
+    match unescape_into(room, inner) {
+        Ok(read) => *bytes = read,
+        Err(Unescape::BadEscape(_)) => return Err(LineFault::Why(Why::Text)),
+        Err(Unescape::Mem) => return Err(LineFault::Mem),
+    }
+    Ok(name)
+}
+
+// Reads a feed as a step, which takes the room for its bytes.
+fn read_feed_step(
     alloc: Global,
     room: &mut Vec<u8>,
     name: &[u8],
@@ -147,18 +174,9 @@ fn read_feed(
     ensures err { IfErr result (λ e. Tells e (feed_of name.now (from_word words.now))) }
     ensures valid { (triggers devices : ℕ) → IfOk result (IsValid triggers devices) }
 {
-    let name = Name::new(name).ok_or(Why::Word)?;
-    let quoted = from_word(words);
-    if !matches!(quoted, [b'"', ..]) {
-        return Err(LineFault::Why(Why::Count));
-    }
-    let inner = between_quotes(quoted).ok_or(Why::Text)?;
-    let room = mem::replace(room, Vec::new(alloc));
-    match unescape_into(room, inner) {
-        Ok(bytes) => Ok(Step::Feed(name, Quoted::new(bytes))),
-        Err(Unescape::BadEscape(_)) => Err(LineFault::Why(Why::Text)),
-        Err(Unescape::Mem) => Err(LineFault::Mem),
-    }
+    let name = read_feed(alloc, room, name, words)?;
+    let bytes = mem::replace(room, Vec::new(alloc));
+    Ok(Step::Feed(name, Quoted::new(bytes)))
 }
 
 // Reads a line from its first word and the words after it.
@@ -176,7 +194,7 @@ fn read_line(
     ensures valid { IfOk result (IsValid (length desc.now.triggers) (length (heads_of desc.now))) }
 {
     match StepWord::of(word) {
-        None => read_feed(alloc, room, word, words),
+        None => read_feed_step(alloc, room, word, words),
         Some(first) => Ok(read_words(desc, first, words)?),
     }
 }

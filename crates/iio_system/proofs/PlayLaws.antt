@@ -1,5 +1,5 @@
 -- What feeds and drops make of a bench and its connections.
-use Rattle.std.proofs.Common.{◌≡◌, ℕ, suc, zero, ◌<◌, ◌≤◌, Bool, true, false, cond, List, [], ◌∷◌, ◌++◌, ◌+◌, nat_lt, length, length-append, map, get_or, set, Option, Some, None, is_some, Result, Ok, Err, OnOk, refl, sym, ap, ◌∙◌, subst, arith}
+use Rattle.std.proofs.Common.{◌≡◌, ℕ, suc, zero, ◌<◌, ◌≤◌, Bool, true, false, cond, List, [], ◌∷◌, ◌++◌, ◌+◌, nat_lt, length, length-append, map, get_or, set, Option, Some, None, is_some, Result, Ok, Err, OnOk, refl, sym, ap, ◌∙◌, subst, arith, one-add}
 use Rattle.std.specs.List.{position}
 use Rattle.std.proofs.lemmas.Bool.Decides.{nat_tests}
 use Rattle.std.proofs.lemmas.List.Elements.{All-push}
@@ -20,6 +20,7 @@ use Rattle.iio_bench.specs.declared.bench.Bench.{Bench}
 use Rattle.iio_bench.specs.declared.connection.Connection.{Connection}
 use Rattle.iio_kinds.specs.declared.seat.Seat.{Seat}
 use Rattle.iio_system.specs.declared.step.Step.{Step as CodeStep}
+use Rattle.iio_system.specs.declared.step.Step.TheVariants as code
 use Rattle.iio_system.specs.Step.{step_view}
 use Rattle.iio_bench.specs.Bench.{Kept, front_of, kept_of, machine_of}
 use Rattle.iio_system.specs.Connections.{AreOwning}
@@ -178,6 +179,11 @@ module _ {X : Type 0} {V : X → Type 0} (driver : Plug X V → Driver) where
       → OnOk r ((cs : List (Connection Seat)) → Makes driver (step_view t) b b' cs cs before after) → OnOk r (MakesStep driver t b b' cs cs before after)
   made_move t b b' cs before after (Err e) makes = tt
   made_move t b b' cs before after (Ok x) makes = λ s m room holds. makes cs s m holds
+
+  pub made_feed : {A : Type 0} (name bytes : List ℕ) (b b' : Bench X V) (cs cs' : List (Connection Seat)) (before after : List ℕ) (r : Result A Mem)
+      → OnOk r (MakesFeed driver name bytes b b' cs cs' before after) → OnOk r (MakesStep driver (code.Feed name bytes) b b' cs cs' before after)
+  made_feed name bytes b b' cs cs' before after (Err e) makes = tt
+  made_feed name bytes b b' cs cs' before after (Ok x) makes = λ s m room holds. makes s m (rw one-add at room) holds
 
   pub made_step : {A : Type 0} (t : CodeStep) (b b' : Bench X V) (cs cs' : List (Connection Seat)) (before after : List ℕ) (r : Result A Mem)
       → OnOk r (Makes driver (step_view t) b b' cs cs' before after) → OnOk r (MakesStep driver t b b' cs cs' before after)

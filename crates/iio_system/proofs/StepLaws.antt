@@ -27,7 +27,7 @@ use Rattle.iio_kinds.specs.declared.seat.Seat.{Seat}
 use Rattle.iio_system.specs.declared.step.Step.{Step as CodeStep}
 use Rattle.iio_system.specs.declared.step.Step.TheVariants as code
 use Rattle.iio_system.specs.declared.system.System.{System}
-use Rattle.iio_system.specs.Standing.{Holds, MakesStep, RiseBy, StandsFor}
+use Rattle.iio_system.specs.Standing.{Holds, IsPerformed, MakesStep, RiseBy, StandsFor, names_by, names_with}
 use Rattle.iio_kinds.specs.Station.{any_station}
 use Rattle.iio_system.specs.Step.{cost_of, step_view}
 use Rattle.iio_system.proofs.ItemLemmas.{items_few, room_less}
@@ -116,7 +116,21 @@ module _ {X : Type 0} {V : X → Type 0} (driver : Plug X V → Driver) where
   steps_ok x x' t before after (Err e) few used makes = tt
   steps_ok x x' t before after (Ok u) few used makes = λ s h stands. stands_step s h x x' t before after few used makes stands
 
+  pub performed_ok : {A : Type 0} (x x' : System X V) (t : CodeStep) (before after : List ℕ) (r : Result A Mem) → x.used + cost_of t < 2 ^ 56
+      → x'.used ≡ x.used + cost_of t
+      → OnOk r (MakesStep driver t x.bench x'.bench x.connections.items x'.connections.items before after)
+      → OnOk r (names_by x' ≡ names_with (names_by x) (step_view t))
+      → OnOk r (IsPerformed driver (step_view t) x x' before after)
+  performed_ok x x' t before after (Err e) few used makes names = tt
+  performed_ok x x' t before after (Ok u) few used makes names = record {
+    lines = λ s h stands. stands_step s h x x' t before after few used makes stands;
+    names = names;
+  }
+
 -- captures stay within what was used
+pub rise_none : (old new : List ℕ) → new ≡ old → RiseBy 32 old new
+rise_none old new same n all = rw same (λ i d within. let few = all i d within in omega (arith, few))
+
 cost_some : (t : CodeStep) → 1 ≤ cost_of t
 cost_some (code.Feed name bytes) = omega arith
 cost_some t = omega arith

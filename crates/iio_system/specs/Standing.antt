@@ -8,7 +8,7 @@ use Rattle.iio_history.specs.Event.{Event}
 use Rattle.iio_history.specs.Registry.{Setup}
 use Rattle.iio_history.specs.Script.{is_known, max_names}
 use Rattle.iio_history.specs.Told.{Told, told}
-use Rattle.iio_history.specs.Transcript.{Step, Feed}
+use Rattle.iio_history.specs.Transcript.{Step, Feed, lines_of_step, with_step}
 use Rattle.iio_history.specs.Bench.{Every}
 use Rattle.iio_history.specs.BenchLaw.{CanJoinMore}
 use Rattle.iio_history.specs.Played.{state_after, step_lines}
@@ -105,3 +105,8 @@ module _ {X : Type 0} {V : X → Type 0} (driver : Plug X V → Driver) where
   pub record StandsFor (s : Setup) (h : List Event) (x : System X V) : Type 0 where
     pub holds : Holds s (told s h) x.bench x.connections.items
     pub room : Every (CanJoinMore (2 ^ 64 - 1 - 32 * x.used)) (told s h).stations
+
+  -- a step was performed: what it printed, what the system stands for, and the names that were fed
+  pub record IsPerformed (t : Step) (x x' : System X V) (before after : List ℕ) : Type 0 where
+    pub lines : (s : Setup) (h : List Event) → StandsFor s h x → (after ≡ before ++ lines_of_step s h t) × StandsFor s (with_step s h t) x'
+    pub names : names_by x' ≡ names_with (names_by x) t

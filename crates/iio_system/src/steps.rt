@@ -7,11 +7,11 @@ ghost use Rattle.iio_core.specs.Front.{first_front};
 ghost use Rattle.iio_history.specs.Event.{Event};
 ghost use Rattle.iio_history.specs.Registry.{Setup};
 ghost use Rattle.iio_history.specs.Script.{max_names};
-ghost use Rattle.iio_history.specs.Transcript.{lines_of_step, with_step};
+ghost use Rattle.iio_history.specs.Transcript.{Feed, Fire, lines_of_step, with_step};
 ghost use Rattle.iio_bench.specs.Bench.{captures_of, front_of};
 ghost use Rattle.iio_worlds.specs.Bystanders.{only_bystanders};
 ghost use Rattle.iio_system.specs.Connections.{AreApart, AreOwning};
-ghost use Rattle.iio_system.specs.Standing.{CanCapture, IsTaken, MakesStep, MeetsStep, RiseBy, StandsFor, has_room, name_by, names_by, names_with};
+ghost use Rattle.iio_system.specs.Standing.{CanCapture, IsPerformed, IsTaken, MakesStep, MeetsStep, RiseBy, StandsFor, has_room, name_by, names_by, names_with};
 ghost use Rattle.iio_bench.specs.Seat.{seen_of};
 ghost use Rattle.iio_system.specs.Step.{IsValid, cost_of, step_view};
 
@@ -164,6 +164,39 @@ impl System {
         ensures { result ≡ has_room (names_by self.now) name.now }
     {
         self.connections.len() < MAX_NAMES || place(&self.connections, name).is_some()
+    }
+
+    /// Performs the step `NAME "bytes"`, like [`System::step`].
+    pub fn feed(&mut self, name: &Name, bytes: &[u8], out: &mut Vec<u8>) -> Result<(), Mem>
+        requires taken { has_room (names_by self.old) name.now ≡ true }
+        requires few { self.old.used + (1 + length bytes.now) < 2 ^ 56 }
+        ensures performed { OnOk result (IsPerformed ⟦<Plug as Sensor>⟧.driver (Feed name.now bytes.now) self.old self.new out.old.items out.new.items) }
+        ensures front { front_of self.new.bench ≡ front_of self.old.bench }
+        ensures used { self.new.used ≡ self.old.used + (1 + length bytes.now) }
+    {
+        self.used += 1 + bytes.len() as u64;
+        feed(
+            self.alloc,
+            &mut self.bench,
+            &mut self.connections,
+            name,
+            bytes,
+            &mut self.answers,
+            &mut self.last,
+            out,
+        )
+    }
+
+    /// Performs the step `fire TRIGGER T`, like [`System::step`].
+    pub fn fire(&mut self, trigger: u32, t: i64, out: &mut Vec<u8>) -> Result<(), Mem>
+        requires valid { trigger < length (front_of self.old.bench).triggers }
+        requires few { self.old.used + 1 < 2 ^ 56 }
+        ensures performed { OnOk result (IsPerformed ⟦<Plug as Sensor>⟧.driver (Fire trigger t) self.old self.new out.old.items out.new.items) }
+        ensures front { front_of self.new.bench ≡ front_of self.old.bench }
+        ensures used { self.new.used ≡ self.old.used + 1 }
+    {
+        self.used += 1;
+        moves::fire(&mut self.bench, trigger, t, out)
     }
 
     /// Performs a step, and appends the lines that it prints. After `Mem` the system may only be dropped.
