@@ -1,5 +1,5 @@
 -- What a session heard, as the history says it.
-use Rattle.std.proofs.Common.{◌≡◌, ℕ, List, [], Option, refl, sym, ap, ◌∙◌}
+use Rattle.std.proofs.Common.{◌≡◌, ℕ, List, [], ◌++◌, Option, refl, sym, ap, ◌∙◌}
 use Rattle.iiod_grammar.specs.Scans.{scan_on}
 use Rattle.iiod_grammar.specs.Stream.{Scanned, Scanner, items_from, no_item}
 use Rattle.iiod_session.specs.declared.going.Going.{Going}
@@ -7,51 +7,56 @@ use Rattle.iiod_session.specs.declared.going.Going.TheVariants.{On, Waits, Ended
 use Rattle.iiod_commands.specs.declared.manner.Manner.TheVariants.{Script, Server}
 use Rattle.iio_core.specs.Front.{Front}
 use Rattle.iio_core.specs.Machine.{Machine}
-use Rattle.iiod_session.specs.Run.{Feeds, FeedTells, State, state_of}
+use Rattle.iiod_commands.specs.Client.{State, state_of}
+use Rattle.iiod_session.specs.Run.{FeedTells, Feeding, Feeds, feeding}
 use Rattle.iiod_commands.specs.Seat.{SeatRecord}
 use Rattle.iiod_session.specs.Session.{SessionRecord}
 use Rattle.iio_history.specs.Registry.{Setup}
 use Rattle.iio_history.specs.Told.{Told}
+use Rattle.iio_history.specs.Played.{texts}
 use Rattle.iio_history.specs.Bench.{front_of}
+use Rattle.iio_history.specs.BenchLaw.{heard}
 use Rattle.iio_history.proofs.BenchFeeds.{script_feeds_tell}
-use Rattle.iio_bench.specs.Connection.{HasHeard, IsHearing}
+use Rattle.iio_bench.specs.Connection.{HasHeard, IsHearing, arrival}
 
 script_isnt_server : Script ≡ Server → ⊥
 script_isnt_server e = absurd (cc)
 
 -- after a feed in a script there is nothing whole left
-left_is : (front : Front) (a b : State) (all left : Scanned) (before after : List ℕ) (going : Going) → (going ≡ On → left.items ≡ [])
-    → Feeds Script front a all before after b left going
-    → left ≡ no_item all.next
-left_is front a b all left before after On whole f =
-    ap (λ items. (let x : Scanned = record { items = items; next = left.next } in x)) (whole refl) ∙ ap (λ next. no_item next) f.carried.fed.next
-left_is front a b all left before after (Waits dev) whole f = absurd (script_isnt_server f.carried.stands.server)
-left_is front a b all left before after Ended whole f =
-    f.carried.stands.1 ∙ ap (λ next. no_item next) (sym (ap (λ (x : Scanned). x.next) f.carried.stands.1) ∙ f.carried.fed.next)
+left_is : (front : Front) (x y : Feeding State) (going : Going) → (going ≡ On → y.stream.items ≡ []) → Feeds Script front x y going
+    → y.stream ≡ no_item x.stream.next
+left_is front x y On whole f =
+    ap (λ items. (let s : Scanned = record { items = items; next = y.stream.next } in s)) (whole refl) ∙ ap (λ next. no_item next) f.carried.fed.next
+left_is front x y (Waits dev) whole f = absurd (script_isnt_server f.carried.stands.server)
+left_is front x y Ended whole f =
+    f.carried.stands.1 ∙ ap (λ next. no_item next) (sym (ap (λ (s : Scanned). s.next) f.carried.stands.1) ∙ f.carried.fed.next)
 
 module _ {S : Type 0} (seen : S → SeatRecord) where
   pub has_heard : (front : Front) (told told' : Option Machine) (x x' : SessionRecord S) (bytes before after : List ℕ) (going : Going)
-      → Feeds x.manner front (state_of seen told x.client) (scan_on x.stream bytes) before after (state_of seen told' x'.client) x'.stream going
+      → Feeds x.manner front (feeding (state_of seen told x.client) (scan_on x.stream bytes) before) (feeding (state_of seen told' x'.client) x'.stream after)
+      going
       → (going ≡ On → x'.stream.items ≡ []) → x'.manner ≡ x.manner
       → FeedTells x.manner front (state_of seen told x.client) (scan_on x.stream bytes).items before after (state_of seen told' x'.client)
-      → (s : Setup) (m : Told) (name : List ℕ) (begun : Scanner) → IsHearing seen s m front told name begun bytes x
-      → HasHeard seen s m told' name begun bytes before after x'
+      → (s : Setup) (m : Told) (name : List ℕ) (begun : Scanner) → IsHearing seen s m front told (arrival name begun bytes) x
+      → (after ≡ before ++ texts s m (heard name (items_from begun bytes))) × HasHeard seen s m told' (arrival name begun bytes) x'
   has_heard front told told' x x' bytes before after going feeds whole manner tells s m name begun h =
-      let f : Feeds Script front (state_of seen told x.client) (scan_on (no_item begun) bytes) before after (state_of seen told' x'.client) x'.stream going =
+      let f : Feeds Script front (feeding (state_of seen told x.client) (scan_on (no_item begun) bytes) before)
+      (feeding (state_of seen told' x'.client) x'.stream after) going =
       rw (h.session.manner, h.session.stream) at feeds in
       let t : FeedTells Script (front_of s) (state_of seen told x.client) (items_from begun bytes) before after (state_of seen told' x'.client) =
       rw (h.session.manner, h.session.stream, h.front_is) at tells in
       let r =
       script_feeds_tell s m name (items_from begun bytes) (state_of seen told x.client) (state_of seen told' x'.client) before after h.bench h.there
       h.session.client
-      h.room h.told_is t in
-      record {
-        said = r.0;
-        told_is = r.1;
-        bench = r.3;
-        session = record {
-          manner = manner ∙ h.session.manner;
-          stream = left_is front _ _ (scan_on (no_item begun) bytes) x'.stream before after going whole f;
-          client = r.2;
-        };
-      }
+      h.room h.told_is t in (
+        r.0,
+        record {
+          told_is = r.1;
+          bench = r.3;
+          session = record {
+            manner = manner ∙ h.session.manner;
+            stream = left_is front _ _ going whole f;
+            client = r.2;
+          };
+        },
+      )

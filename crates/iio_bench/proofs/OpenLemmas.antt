@@ -38,7 +38,7 @@ use Rattle.iiod_commands.specs.Seat.{Answers, IsNew, MayOpen, number_by as numbe
 use Rattle.iio_kinds.specs.declared.any_device.AnyDevice.{AnyDevice}
 use Rattle.iio_kinds.specs.declared.any_device.AnyDevice.TheVariants as any
 use Rattle.iio_kinds.specs.declared.seat.Seat.{Seat}
-use Rattle.iio_kinds.specs.Faults.{HostsAny, JoinsAny, any_refusals, lacks_place}
+use Rattle.iio_kinds.specs.Faults.{HostsAny, JoinsAny, any_refusals, joining_of, lacks_place}
 use Rattle.iio_bench.specs.Averages.{IsAveraged, kind_in}
 use Rattle.iio_kinds.specs.Inner.{has_inner}
 use Rattle.iio_kinds.specs.MeanStation.{mean_station}
@@ -91,7 +91,7 @@ places_left true places s s' e = ap trigger_of e
 places_left false places s s' e = ap trigger_of e
 
 pub joins_tell : (mask : Mask) (capacity : ℕ) (cyclic : Bool) (inner : Option ℕ) (number : ℕ) (shape : ShapeRecord) (r : Result Seat No) (st st' : Station)
-    (s s' : State) → JoinsAny mask capacity cyclic inner number shape r st st' s s' → trigger_of s' ≡ trigger_of s
+    (s s' : State) → JoinsAny (joining_of number shape mask capacity cyclic inner) r st st' s s' → trigger_of s' ≡ trigger_of s
 joins_tell mask capacity cyclic inner number shape (Ok seat) st st' s s' j = places_tell (is_empty st.members) _ s s' j.2
 joins_tell mask capacity cyclic inner number shape (Err x) st st' s s' j = ap trigger_of j.2
 
@@ -201,7 +201,7 @@ module _ (triggers : List TriggerDesc) (states : List State) (sts : List Station
       after
 
   pub bench_joined : (mask : Mask) (capacity : ℕ) (cyclic : Bool) (inner : Option ℕ) (shape : ShapeRecord) (r : Result Seat No)
-      → JoinsAny mask capacity cyclic inner k shape r st st' s s' → IsBench triggers (set states t s') (set sts k st')
+      → JoinsAny (joining_of k shape mask capacity cyclic inner) r st st' s s' → IsBench triggers (set states t s') (set sts k st')
   bench_joined mask capacity cyclic inner shape (Ok seat) j = joined_by mask.bits capacity cyclic inner (is_empty st.members) refl j.1 j.2
   bench_joined mask capacity cyclic inner shape (Err x) j = same_bench j.1 j.2
 
@@ -407,7 +407,7 @@ module _ {X : Type 0} {V : X → Type 0} (drive : Plug X V → Driver) where
 
     pub open_joins : (ts : List Trigger) (mask : Mask) (t : ℕ) (d' : AnyDevice X V) (s s' : State) (r : Result Seat No) → is_average (any_front d).kind ≡ false
         → HostsAny states (any_front d).kind (number_by d) (any_front d).shape (any_station drive d) mask.bits (Ok t)
-        → JoinsAny mask capacity cyclic None (number_by d) (any_front d).shape r (any_station drive d) (any_station drive d') s s'
+        → JoinsAny (joining_of (number_by d) (any_front d).shape mask capacity cyclic None) r (any_station drive d) (any_station drive d') s s'
         → Answers (open_of (fronts_by any_front context triggers ds) (machine_by (any_station drive) clock ts ds) k mask.bits capacity cyclic)
         (machine_by (any_station drive) clock ts ds) (number_of seen_of r) (Some (machine_by (any_station drive) clock ts (set ds k d')))
     open_joins ts mask t d' s s' (Ok seat) plain hosts j =
@@ -421,7 +421,7 @@ module _ {X : Type 0} {V : X → Type 0} (drive : Plug X V → Driver) where
         (ap (λ (m : Machine). Some m) (told_same (any_station drive) clock ts ds k d d' at j.1))
 
     pub open_seat : (mask : Mask) (st st' : Station) (s s' : State) (r : Result Seat No)
-        → JoinsAny mask capacity cyclic None (number_by d) (any_front d).shape r st st' s s'
+        → JoinsAny (joining_of (number_by d) (any_front d).shape mask capacity cyclic None) r st st' s s'
         → IfOk r (λ x. IsNew (fronts_by any_front context triggers ds) k mask.bits capacity (seen_of x))
     open_seat mask st st' s s' (Ok seat) j = record {
       owned = record {
@@ -452,12 +452,13 @@ module _ {X : Type 0} {V : X → Type 0} (drive : Plug X V → Driver) where
     back b = sound_as drive (λ p. no_driver) triggers (set states t s') (set ds k d') (bench_by (any_station drive) triggers (set states t s') ds k d' b)
 
     pub sound_joins : (mask : Mask) (capacity : ℕ) (cyclic : Bool) (inner : Option ℕ) (r : Result Seat No)
-        → JoinsAny mask capacity cyclic inner (number_by d) (any_front d).shape r (any_station drive d) (any_station drive d') s s'
+        → JoinsAny (joining_of (number_by d) (any_front d).shape mask capacity cyclic inner) r (any_station drive d) (any_station drive d') s s'
         → IsBench triggers (set states t s') (stations_by (λ p. no_driver) (set ds k d'))
     sound_joins mask capacity cyclic inner r j =
         back (bench_joined triggers states (stations_by drive ds) k t (any_station drive d) (any_station drive d') s s' (sound_any triggers states ds sound)
         (map_at (any_station drive) ds k d at) there own within mask capacity cyclic inner (any_front d).shape r
-        (subst (λ (n : ℕ). JoinsAny mask capacity cyclic inner n (any_front d).shape r (any_station drive d) (any_station drive d') s s') (numbered k d at) j))
+        (subst (λ (n : ℕ). JoinsAny (joining_of n (any_front d).shape mask capacity cyclic inner) r (any_station drive d) (any_station drive d') s s')
+        (numbered k d at) j))
 
     pub sound_leaves : (n : ℕ) → any_station drive d' ≡ station_after_leave n (any_station drive d)
         → s' ≡ place_left (number_by d) (any_station drive d) (any_station drive d') s
@@ -499,7 +500,7 @@ module _ {X : Type 0} {V : X → Type 0} (drive : Plug X V → Driver) where
       (averaged : IsAveraged triggers first (map any_front ds) (stations_by (λ p. no_driver) ds)) (at : slice_get ds k ≡ Some d)
       (plain : is_average (any_front d).kind ≡ false) (keeps : KeepsHead d d') (own : (any_station drive d).site.trigger ≡ Some t) (within : t < triggers) where
     pub averaged_joins : (mask : Mask) (capacity : ℕ) (cyclic : Bool) (r : Result Seat No) (s s' : State)
-        → JoinsAny mask capacity cyclic None (number_by d) (any_front d).shape r (any_station drive d) (any_station drive d') s s'
+        → JoinsAny (joining_of (number_by d) (any_front d).shape mask capacity cyclic None) r (any_station drive d) (any_station drive d') s s'
         → IsAveraged triggers first (map any_front (set ds k d')) (stations_by (λ p. no_driver) (set ds k d'))
     averaged_joins mask capacity cyclic (Ok seat) s s' j =
         by_base triggers first ds k d d' averaged at plain keeps (hosted_is t triggers (any_station drive d')

@@ -134,14 +134,15 @@ told_all front (item ∷ items) x y told =
     ∙ ap (λ (b : Bool). meeting x b) (and_more x.meets (item_meets (opens_at front x) x.mine item) (items_meet (opens_at front x) x.mine items))
 
 -- a guard that was told of a feed says whether it keeps to the rules
-pub beside_meets : (name bytes : List ℕ) (front : Front) (machine : Option Machine) (session : Option (SessionRecord Seat)) (watched : List ℕ)
-    (others : List (Connection Seat)) (x y : Guard)
+pub beside_meets : (name bytes : List ℕ) (front : Front) (machine : Option Machine) (session : Option (SessionRecord Seat))
+    (text watched : List ℕ) (others : List (Connection Seat)) (x y : Guard)
     → x.meets ≡ true → x.mine ≡ bytes_eq name watched → x.watched.now ≡ watched → client_by seen_of x.own ≡ client_named seen_of watched others
     → connections_of x.others ≡ others
-    → Watches seen_of guards name bytes front machine session x y
-    → MeetsBeside seen_of watched name bytes front machine session others y.meets
-beside_meets name bytes front machine None watched others x y first mine named own beside told = ap (λ (g : Guard). g.meets) told ∙ first
-beside_meets name bytes front machine (Some spoken) watched others x y first mine named own beside told = λ s n begun hearing.
+    → Watches seen_of guards bytes (record { front = front; told = machine; connection = record { name = name; session = session }; printed = text }) x y
+    → MeetsBeside seen_of watched bytes (record { front = front; told = machine; connection = record { name = name; session = session }; printed = text })
+    others y.meets
+beside_meets name bytes front machine None text watched others x y first mine named own beside told = ap (λ (g : Guard). g.meets) told ∙ first
+beside_meets name bytes front machine (Some spoken) text watched others x y first mine named own beside told = λ s n begun hearing.
     let items : List Item = items_from begun bytes in
     ap (λ (g : Guard). g.meets) (told_all front items x y (told s n begun hearing))
     ∙ ap (λ (b : Bool). b && items_meet (opens_at front x) x.mine items) first

@@ -27,7 +27,7 @@ use Rattle.iio_core.specs.Trigger.{Trigger}
 use Rattle.iio_core.specs.Front.{Front, device_name, kind_at, shape_at, size_at, trigger_name}
 use Rattle.iio_core.specs.Machine.{Machine, MemberId, Station, is_plugged, lost_of, no_station, queue_of, scans_in, station_at, with_queue, with_scans, with_site, with_station}
 use Rattle.iio_core.specs.Calls.{ev_close_of, ev_open_answer, ev_open_of, ev_read_answer, ev_read_of, holds_events, is_asking, read_attr_of, set_trigger_of, trigger_answer, unless, write_attr_of, write_scans_at, write_scans_of, writes}
-use Rattle.iiod_commands.specs.Reading.{TakesScans}
+use Rattle.iiod_commands.specs.Reading.{TakesScans, reading}
 use Rattle.iiod_commands.specs.Seat.{Answers, SeatRecord, Takes, seat_id}
 use Rattle.iio_kinds.specs.Acting.{Acts, Reads, TakesAt, TakesScansAt, Turns, lost_in}
 use Rattle.iio_bench.proofs.ListLemmas.{map_at, map_changed, map_same}
@@ -146,7 +146,7 @@ module _ {D : Type 0} (f : D → Station) (clock : ℤ) (ts : List Trigger) (ds 
   -- takes of many scans, by a seat without a trace
   pub told_take_scans : (s : SeatRecord) (most : ℕ) (took : Took) (before after : List ℕ) → s.trace ≡ None
       → TakesScansAt (seat_id s) most took before after (f d) (f d')
-      → TakesScans k most (Some (machine_by f clock ts ds)) (Some (machine_by f clock ts (set ds k d'))) s s before after took
+      → TakesScans k most (reading (Some (machine_by f clock ts ds)) s before) (reading (Some (machine_by f clock ts (set ds k d'))) s after) took
   told_take_scans s most Scan before after untold t =
       let scans : List (List ℕ) = take most (scans_in (seat_id s) (f d).members) in (
         scans,

@@ -1,7 +1,10 @@
 -- The feed of a connection.
-use Rattle.std.specs.Prelude.{◌≡◌, ℕ, Bool, true, false, List, [], ◌∷◌, ◌++◌, Option, Some, None, IfSome, if◌then◌else◌}
+use Rattle.std.specs.Prelude.{◌≡◌, ℕ, Bool, true, false, List, [], ◌∷◌, ◌++◌, Option, Some, None, IfSome, MatchOption, if◌then◌else◌}
 use Rattle.iio_text.specs.Escape.{quoted}
-use Rattle.iiod_grammar.specs.Stream.{AtEnd, Scanner, items_from, scanner_after}
+use Rattle.iiod_grammar.specs.Stream.{AtEnd, Scanner}
+use Rattle.iio_sensor.specs.Driver.{Driver}
+use Rattle.iio_device.specs.declared.plug.Plug.{Plug}
+use Rattle.iio_kinds.specs.declared.seat.Seat.{Seat}
 use Rattle.iiod_commands.specs.Acts.{left_machine}
 use Rattle.iiod_commands.specs.Client.{IsClient, client_of}
 use Rattle.iio_core.specs.Front.{Front}
@@ -12,8 +15,10 @@ use Rattle.iio_history.specs.Registry.{Setup}
 use Rattle.iio_history.specs.Told.{Told}
 use Rattle.iio_history.specs.Played.{texts}
 use Rattle.iio_history.specs.Transcript.{closed_line, printed}
-use Rattle.iio_history.specs.BenchLaw.{heard}
-use Rattle.iio_bench.specs.Connection.{HasHeard, IsHearing}
+use Rattle.iio_bench.specs.declared.bench.Bench.{Bench}
+use Rattle.iio_bench.specs.declared.connection.Connection.{Connection}
+use Rattle.iio_bench.specs.Bench.{front_of, machine_of}
+use Rattle.iio_bench.specs.Connection.{Arrival, HasHeard, IsHearing, arrival, heard_of, scanner_of}
 
 -- whether further bytes mean nothing
 abbrev pub is_at_end : Scanner → Bool
@@ -21,9 +26,20 @@ is_at_end AtEnd = true
 is_at_end s = false
 
 -- the lines of a feed: what was answered, and whether the connection has ended with it
-abbrev pub feed_lines : Setup → Told → (name : List ℕ) → Scanner → (bytes : List ℕ) → List ℕ
-feed_lines s n name begun bytes =
-    printed (name ∷ quoted (texts s n (heard name (items_from begun bytes))) ∷ []) ++ (if is_at_end (scanner_after begun bytes) then closed_line name else [])
+abbrev pub feed_lines : Setup → Told → Arrival → List ℕ
+feed_lines s n a = printed (a.name ∷ quoted (texts s n (heard_of a)) ∷ []) ++ (if is_at_end (scanner_of a) then closed_line a.name else [])
+
+-- the state that a feed changes: the devices as they are told, the connection, and what was printed
+pub record FeedState (S : Type 0) : Type 0 where
+  pub front : Front
+  pub told : Option Machine
+  pub connection : Connection S
+  pub printed : List ℕ
+
+-- the same at a bench
+module _ {X : Type 0} {V : X → Type 0} (driver : Plug X V → Driver) where
+  abbrev pub feed_state : Bench X V → Connection Seat → (printed : List ℕ) → FeedState Seat
+  feed_state b c text = record { front = front_of b; told = Some (machine_of driver b); connection = c; printed = text }
 
 module _ {S : Type 0} (seen : S → SeatRecord) where
   -- what a connection's session holds is owned
@@ -36,15 +52,15 @@ module _ {S : Type 0} (seen : S → SeatRecord) where
   left_by front m (Some x) = left_machine front m (client_of seen x.client)
 
   -- a connection that hadn't ended was fed: it has no session any more if it ended with this feed
-  pub record HasFed (s : Setup) (n : Told) (told : Option Machine) (name : List ℕ) (begun : Scanner) (bytes : List ℕ) (before after : List ℕ)
-      (session : Option (SessionRecord S)) : Type 0 where
+  pub record HasFed (s : Setup) (n : Told) (a : Arrival) (x y : FeedState S) : Type 0 where
     pub spoken : SessionRecord S
-    pub heard_by : HasHeard seen s n told name begun bytes [] (texts s n (heard name (items_from begun bytes))) spoken
-    pub left : session ≡ (if is_at_end (scanner_after begun bytes) then None else Some spoken)
-    pub lines : after ≡ before ++ feed_lines s n name begun bytes
+    pub heard_by : HasHeard seen s n y.told a spoken
+    pub left : y.connection.session ≡ (if is_at_end (scanner_of a) then None else Some spoken)
+    pub lines : y.printed ≡ x.printed ++ feed_lines s n a
 
   -- a feed; if the connection has already ended, only the line that says so is printed again
-  abbrev pub Feeds : (name bytes : List ℕ) → Front → (told told' : Option Machine) → (before after : List ℕ) → (old new : Option (SessionRecord S)) → Type 0
-  Feeds name bytes front told told' before after None new = (new ≡ None) × (told' ≡ told) × (after ≡ before ++ closed_line name)
-  Feeds name bytes front told told' before after (Some x) new =
-      (s : Setup) (n : Told) (begun : Scanner) → IsHearing seen s n front told name begun bytes x → HasFed s n told' name begun bytes before after new
+  abbrev pub Feeds : (bytes : List ℕ) → (x y : FeedState S) → Type 0
+  Feeds bytes x y =
+      MatchOption x.connection.session ((y.connection.session ≡ None) × (y.told ≡ x.told) × (y.printed ≡ x.printed ++ closed_line x.connection.name))
+      (λ session. (s : Setup) (n : Told) (begun : Scanner) → IsHearing seen s n x.front x.told (arrival x.connection.name begun bytes) session
+      → HasFed s n (arrival x.connection.name begun bytes) x y)

@@ -1,6 +1,6 @@
 -- What is known, while a connection is fed, of what the others have open, by the clients of their sessions; and whether what it
 -- says keeps to the rules of bystanders.
-use Rattle.std.specs.Prelude.{◌≡◌, ℕ, ◌&&◌, nat_lt, Bool, true, List, [], ◌∷◌, ◌++◌, Option, Some, None, option_map, Ok, if◌then◌else◌}
+use Rattle.std.specs.Prelude.{◌≡◌, ℕ, ◌&&◌, nat_lt, Bool, true, List, [], ◌∷◌, ◌++◌, Option, Some, None, option_map, Ok, MatchOption, if◌then◌else◌}
 use Rattle.std.specs.Borrow.{Bor}
 use Rattle.std.specs.Str.{bytes_eq}
 use Rattle.iio_text.specs.declared.errors.Errno.TheVariants.{EFBIG}
@@ -20,7 +20,8 @@ use Rattle.iio_bench.specs.declared.connection.Connection.{Connection}
 use Rattle.iio_bench.specs.declared.guard.Guard.{Guard}
 use Rattle.iio_bench.specs.declared.others.Others.{Others}
 use Rattle.iio_kinds.specs.declared.seat.Seat.{Seat}
-use Rattle.iio_bench.specs.Connection.{IsHearing}
+use Rattle.iio_bench.specs.Connection.{IsHearing, arrival}
+use Rattle.iio_bench.specs.Feeding.{FeedState}
 use Rattle.iio_bench.specs.Seat.{seen_of}
 
 -- a watch after it was told these items, whatever the state before each
@@ -36,11 +37,10 @@ connection_named name (c ∷ cs) = if bytes_eq c.name name then Some c else conn
 
 module _ {S : Type 0} (seen : S → SeatRecord) where
   -- a watch is told the items of a connection that is fed, and none of one that has ended
-  abbrev pub Watches : {W : Type 0} → (makes : Front → Option Machine → ℕ → Item → W → W → Type 0) → (name bytes : List ℕ) → Front → (told : Option Machine)
-      → Option (SessionRecord S) → W → W → Type 0
-  Watches makes name bytes front told None w v = v ≡ w
-  Watches makes name bytes front told (Some x) w v =
-      (s : Setup) (n : Told) (begun : Scanner) → IsHearing seen s n front told name begun bytes x → TellsAll makes front (items_from begun bytes) w v
+  abbrev pub Watches : {W : Type 0} → (makes : Front → Option Machine → ℕ → Item → W → W → Type 0) → (bytes : List ℕ) → FeedState S → W → W → Type 0
+  Watches makes bytes x w v =
+      MatchOption x.connection.session (v ≡ w) (λ session. (s : Setup) (n : Told) (begun : Scanner)
+      → IsHearing seen s n x.front x.told (arrival x.connection.name begun bytes) session → TellsAll makes x.front (items_from begun bytes) w v)
 
   -- a connection that has ended has no client
   abbrev pub with_client : Option (SessionRecord S) → List ClientRecord → List ClientRecord
@@ -61,12 +61,12 @@ module _ {S : Type 0} (seen : S → SeatRecord) where
   client_by own = option_map (λ (x : Bor (SessionRecord S)). client_of seen x.now.client) own
 
   -- whether a feed keeps to the rules, if these are the other connections; a connection that has ended says nothing
-  abbrev pub MeetsBeside : (watched name bytes : List ℕ) → Front → (told : Option Machine) → Option (SessionRecord S) → (others : List (Connection S)) → Bool
-      → Type 0
-  MeetsBeside watched name bytes front told None others meets = meets ≡ true
-  MeetsBeside watched name bytes front told (Some x) others meets =
-      (s : Setup) (n : Told) (begun : Scanner) → IsHearing seen s n front told name begun bytes x
-      → meets ≡ items_meet (opens_by front (client_named watched others) (clients_besides watched others)) (bytes_eq name watched) (items_from begun bytes)
+  abbrev pub MeetsBeside : (watched bytes : List ℕ) → FeedState S → (others : List (Connection S)) → Bool → Type 0
+  MeetsBeside watched bytes x others meets =
+      MatchOption x.connection.session (meets ≡ true) (λ session. (s : Setup) (n : Told) (begun : Scanner)
+      → IsHearing seen s n x.front x.told (arrival x.connection.name begun bytes) session
+      → meets ≡ items_meet (opens_by x.front (client_named watched others) (clients_besides watched others)) (bytes_eq x.connection.name watched)
+      (items_from begun bytes))
 
 -- the item for a command that is told; a payload is left out
 abbrev pub item_by : Command → Item

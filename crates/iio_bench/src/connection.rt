@@ -1,15 +1,17 @@
-//! The connections of a script.
+//! A connection of a script, over any devices.
 
-ghost use Rattle.std.specs.Prelude.{◌≡◌, ◌↔◌, ◌++◌, ℕ, List, IfOk, IsTrue, None, OnOk, Some, position};
+ghost use Rattle.std.specs.Prelude.{◌≡◌, ◌↔◌, ◌++◌, ℕ, List, IfOk, IsTrue, None, OnOk, position};
 ghost use Rattle.std.specs.Str.{bytes_eq};
-ghost use Rattle.iiod_grammar.specs.Stream.{AtEnd, Scanner, no_item};
+ghost use Rattle.iiod_grammar.specs.Stream.{AtEnd, Scanner, items_from, no_item};
 ghost use Rattle.iiod_commands.specs.Client.{IsClient};
 ghost use Rattle.iio_history.specs.Registry.{Setup};
 ghost use Rattle.iio_history.specs.Told.{Told};
+ghost use Rattle.iio_history.specs.BenchLaw.{heard};
+ghost use Rattle.iio_history.specs.Played.{texts};
 ghost use Rattle.iio_history.specs.Transcript.{closed_line};
-ghost use Rattle.iio_bench.specs.Connection.{HasHeard, IsHearing};
+ghost use Rattle.iio_bench.specs.Connection.{HasHeard, IsHearing, arrival};
 ghost use Rattle.iio_bench.specs.Feeding.{Feeds, IsOwning};
-ghost use Rattle.iio_bench.specs.Guard.{Watches};
+ghost use Rattle.iio_bench.specs.Guard.{TellsAll, Watches};
 
 use crate::feed_lines::{push_closed, push_feed};
 use iio_attr::Name;
@@ -38,11 +40,13 @@ fn hear<I: Iio, W: Watch<I>>(
     ensures kept { I.kept iio.new ≡ I.kept iio.old }
     ensures client { IsClient I.seen (I.front (I.kept iio.new)) session.new.client }
     ensures heard { IfOk result (λ ended. (s : Setup) (m : Told) (name : List ℕ) (begun : Scanner)
-        → IsHearing I.seen s m (I.front (I.kept iio.old)) (I.told iio.old) name begun bytes.now session.old
-        → HasHeard I.seen s m (I.told iio.new) name begun bytes.now answers.old.items answers.new.items session.new) }
+        → IsHearing I.seen s m (I.front (I.kept iio.old)) (I.told iio.old) (arrival name begun bytes.now) session.old
+        → (answers.new.items ≡ answers.old.items ++ texts s m (heard name (items_from begun bytes.now)))
+        × HasHeard I.seen s m (I.told iio.new) (arrival name begun bytes.now) session.new) }
     ensures ended { IfOk result (λ ended. IsTrue ended ↔ (session.new.stream ≡ no_item AtEnd)) }
-    ensures watches { IfOk result
-        (λ ended. (name : List ℕ) → Watches I.seen W.makes name bytes.now (I.front (I.kept iio.old)) (I.told iio.old) (Some session.old) watch.old watch.new) }
+    ensures watches { IfOk result (λ ended. (s : Setup) (m : Told) (name : List ℕ) (begun : Scanner)
+        → IsHearing I.seen s m (I.front (I.kept iio.old)) (I.told iio.old) (arrival name begun bytes.now) session.old
+        → TellsAll W.makes (I.front (I.kept iio.old)) (items_from begun bytes.now) watch.old watch.new) }
 {
     session.feed_watched(alloc, iio, watch, bytes, answers)?;
     Ok(session.ended())
@@ -76,10 +80,11 @@ where
     ensures kept { I.kept iio.new ≡ I.kept iio.old }
     ensures name { connection.new.name ≡ connection.old.name }
     ensures client { IsOwning I.seen (I.front (I.kept iio.new)) connection.new.session }
-    ensures fed { OnOk result (Feeds I.seen connection.old.name bytes.now (I.front (I.kept iio.old)) (I.told iio.old) (I.told iio.new)
-        out.old.items out.new.items connection.old.session connection.new.session) }
-    ensures watches { OnOk result (Watches I.seen W.makes connection.old.name bytes.now (I.front (I.kept iio.old)) (I.told iio.old)
-        connection.old.session watch.old watch.new) }
+    ensures fed { OnOk result (Feeds I.seen bytes.now
+        (record { front = I.front (I.kept iio.old); told = I.told iio.old; connection = connection.old; printed = out.old.items })
+        (record { front = I.front (I.kept iio.new); told = I.told iio.new; connection = connection.new; printed = out.new.items })) }
+    ensures watches { OnOk result (Watches I.seen W.makes bytes.now
+        (record { front = I.front (I.kept iio.old); told = I.told iio.old; connection = connection.old; printed = out.old.items }) watch.old watch.new) }
 {
     let Some(session) = &mut connection.session else {
         return push_closed(out, &connection.name);

@@ -1,10 +1,10 @@
 //! A connection at a bench: its feeds, and its loss.
 
-ghost use Rattle.std.specs.Prelude.{◌≡◌, ◌++◌, None, Some, IfOk, OnOk, is_some};
+ghost use Rattle.std.specs.Prelude.{◌≡◌, ◌++◌, None, IfOk, OnOk, is_some};
 ghost use Rattle.iio_bench.specs.Bench.{front_of, kept_of, machine_of};
 ghost use Rattle.iiod_commands.specs.Acts.{left_machine};
 ghost use Rattle.iiod_commands.specs.Client.{IsClient, client_of};
-ghost use Rattle.iio_bench.specs.Feeding.{Feeds, IsOwning, left_by};
+ghost use Rattle.iio_bench.specs.Feeding.{Feeds, IsOwning, feed_state, left_by};
 ghost use Rattle.iio_bench.specs.Guard.{MeetsBeside};
 ghost use Rattle.iio_bench.specs.Seat.{seen_of};
 
@@ -33,8 +33,8 @@ pub fn feed_unwatched(
     ensures kept { kept_of bench.new ≡ kept_of bench.old }
     ensures name { connection.new.name ≡ connection.old.name }
     ensures client { IsOwning seen_of (front_of bench.new) connection.new.session }
-    ensures fed { OnOk result (Feeds seen_of connection.old.name bytes.now (front_of bench.old) (Some (machine_of ⟦<Plug as Sensor>⟧.driver bench.old))
-        (Some (machine_of ⟦<Plug as Sensor>⟧.driver bench.new)) out.old.items out.new.items connection.old.session connection.new.session) }
+    ensures fed { OnOk result (Feeds seen_of bytes.now (feed_state ⟦<Plug as Sensor>⟧.driver bench.old connection.old out.old.items)
+        (feed_state ⟦<Plug as Sensor>⟧.driver bench.new connection.new out.new.items)) }
 {
     feed_at(
         alloc,
@@ -64,10 +64,10 @@ pub fn feed_beside(
     ensures kept { kept_of bench.new ≡ kept_of bench.old }
     ensures name { connection.new.name ≡ connection.old.name }
     ensures client { IsOwning seen_of (front_of bench.new) connection.new.session }
-    ensures fed { OnOk result (Feeds seen_of connection.old.name bytes.now (front_of bench.old) (Some (machine_of ⟦<Plug as Sensor>⟧.driver bench.old))
-        (Some (machine_of ⟦<Plug as Sensor>⟧.driver bench.new)) out.old.items out.new.items connection.old.session connection.new.session) }
-    ensures meets { IfOk result (MeetsBeside seen_of watched.now connection.old.name bytes.now (front_of bench.old)
-        (Some (machine_of ⟦<Plug as Sensor>⟧.driver bench.old)) connection.old.session (before.now ++ after.now)) }
+    ensures fed { OnOk result (Feeds seen_of bytes.now (feed_state ⟦<Plug as Sensor>⟧.driver bench.old connection.old out.old.items)
+        (feed_state ⟦<Plug as Sensor>⟧.driver bench.new connection.new out.new.items)) }
+    ensures meets { IfOk result (MeetsBeside seen_of watched.now bytes.now
+        (feed_state ⟦<Plug as Sensor>⟧.driver bench.old connection.old out.old.items) (before.now ++ after.now)) }
 {
     let others = Others { before, after };
     let mut watch = Guard::new(watched, &connection.name, others);

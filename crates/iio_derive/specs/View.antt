@@ -1,7 +1,8 @@
 -- What always holds of an averaging device's fields. Cited by its model and by private functions alone.
-use Rattle.std.specs.Prelude.{◌≡◌, ℕ, zero, suc, All, length, Option, IfSome, ◌+◌, ◌*◌, ◌-◌, ◌^◌, ◌<◌, ◌≤◌, List, slice_index, ℤ, pos, neg_ℤ, ◌≤ℤ◌}
+use Rattle.std.specs.Prelude.{◌≡◌, ℕ, zero, suc, All, length, vec_capacity, Option, IfSome, ◌+◌, ◌*◌, ◌-◌, ◌^◌, ◌<◌, ◌≤◌, List, slice_index, ℤ, pos, neg_ℤ, ◌≤ℤ◌}
 use Rattle.iio_layout.specs.Layout.{place_of, scan_size, size_at}
 use Rattle.iio_layout.specs.Shape.{ShapeRecord, count_of, formats_of, width_of}
+use Rattle.iio_derive.specs.declared.average.Average.TheInside.{Inside}
 use Rattle.iio_derive.specs.declared.members.Membership.{Membership}
 use Rattle.iio_derive.specs.Members.{member_at}
 use Rattle.iio_derive.specs.Sized.{IsSized}
@@ -31,14 +32,14 @@ abbrev pub AreSized : ShapeRecord → List (Option Membership) → Type 0
 AreSized shape seats = (number : ℕ) → IfSome (member_at number seats) (λ m. IsSized shape m)
 
 -- what holds of an averaging device's fields
-pub record IsSound (shape : ShapeRecord) (size count : ℕ) (places : List ℕ) (sums : List ℤ) (values room : ℕ) (seats : List (Option Membership)) : Type 0 where
-  pub low : 2 ≤ size
-  pub high : size ≤ 1000
-  pub counted : count < size
-  pub placed : ArePlaces shape places
-  pub width : length sums ≡ width_of shape
-  pub summed : 1 ≤ count → All (λ s. IsSum count s) sums
-  pub read : 8 * length shape.channels ≤ values
-  pub roomy : 16 * count_of shape ≤ room
-  pub few : length seats < 2 ^ 32
-  pub sized : AreSized shape seats
+pub record IsSound (a : Inside) : Type 0 where
+  pub low : 2 ≤ a.size
+  pub high : a.size ≤ 1000
+  pub counted : a.count < a.size
+  pub placed : ArePlaces a.shape a.places
+  pub width : length a.sums.items ≡ width_of a.shape
+  pub summed : 1 ≤ a.count → All (λ s. IsSum a.count s) a.sums.items
+  pub read : 8 * length a.shape.channels ≤ vec_capacity a.values
+  pub roomy : 16 * count_of a.shape ≤ length a.room.items
+  pub few : length a.seats.items < 2 ^ 32
+  pub sized : AreSized a.shape a.seats.items

@@ -43,7 +43,6 @@ pub struct Average {
 }
 
 impl Model for Average {
-    ghost use Rattle.std.specs.Prelude.{length, vec_capacity};
     ghost use Rattle.iio_derive.specs.Average.{AverageRecord};
 
     ghost Value = { AverageRecord };
@@ -52,7 +51,7 @@ impl Model for Average {
 
     ghost view = { λ a. record { shape = a.shape; size = a.size; window = window_of a.count a.sums.items; seats = a.seats.items } };
 
-    ghost invariant = { λ a. IsSound a.shape a.size a.count a.places a.sums.items (vec_capacity a.values) (length a.room.items) a.seats.items };
+    ghost invariant = { IsSound };
 }
 
 impl Average {

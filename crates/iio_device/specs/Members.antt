@@ -2,9 +2,19 @@
 use Rattle.std.specs.Prelude.{◌≡◌, ℕ, ◌+◌, ◌==◌, ◌&&◌, Bool, not, List, [], ◌∷◌, map, filter, find, Option, None, Some, MatchBool}
 use Rattle.std.specs.List.{list_any}
 use Rattle.std.specs.Set.{distinct_count}
+use Rattle.iio_mask.specs.declared.Mask.{Mask}
 use Rattle.iio_kfifo.specs.declared.tail.Offered.{Offered}
 use Rattle.iio_kfifo.specs.Queue.{GivesFirst, GivesScans, Queue}
 use Rattle.iio_device.specs.declared.membership.Membership.{Membership}
+
+-- a member as its seat knows it. A seat of other devices can have the number of a member here, but gets nothing of it: the
+-- scans of another mask have another size
+pub record MemberId : Type 0 where
+  pub number : ℕ
+  pub mask : ℕ
+
+abbrev pub id_of : ℕ → Mask → MemberId
+id_of number mask = record { number = number; mask = mask.bits }
 
 module _ {Q : Type 0} where
   abbrev pub mask_of : Membership Q → ℕ

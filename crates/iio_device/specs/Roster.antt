@@ -18,7 +18,7 @@ use Rattle.iio_device.specs.declared.roster.JoinRefused.{JoinRefused}
 use Rattle.iio_device.specs.Groups.{GroupRecord, remade}
 use Rattle.iio_device.specs.Active.{active_for, active_beside}
 use Rattle.iio_device.specs.Joining.{member_faults}
-use Rattle.iio_device.specs.Members.{Drains, DrainsScans, WasOffered, is_live_under, masks_of, member_of, without}
+use Rattle.iio_device.specs.Members.{Drains, DrainsScans, MemberId, WasOffered, is_live_under, masks_of, member_of, without}
 
 -- a device's members, as a caller sees them; there is no active mask if there is no member
 pub record Standing (Q : Type 0) : Type 0 where
@@ -106,14 +106,13 @@ Takes number (Some given) out out' old new =
     × (new ≡ record old { members = new.members })
     × ChangesOne number (Drains given out out') old.members new.members
 
--- the oldest scans, at most `most`, are moved out of the queue of the member of that number and that mask; if there is no such
--- member, nothing changes
-abbrev pub TakesScans : (number mask most : ℕ) → Option ℕ → (before after : List ℕ) → Standing Queue → Standing Queue → Type 0
-TakesScans number mask most None before after old new = (is_live_under number mask old.members ≡ false) × (new ≡ old) × (after ≡ before)
-TakesScans number mask most (Some count) before after old new =
-    (is_live_under number mask old.members ≡ true)
+-- the oldest scans, at most `most`, are moved out of the queue of that member; if it isn't there, nothing changes
+abbrev pub TakesScans : MemberId → (most : ℕ) → Option ℕ → (before after : List ℕ) → Standing Queue → Standing Queue → Type 0
+TakesScans id most None before after old new = (is_live_under id.number id.mask old.members ≡ false) × (new ≡ old) × (after ≡ before)
+TakesScans id most (Some count) before after old new =
+    (is_live_under id.number id.mask old.members ≡ true)
     × (new ≡ record old { members = new.members })
-    × ChangesOne number (DrainsScans most count before after) old.members new.members
+    × ChangesOne id.number (DrainsScans most count before after) old.members new.members
 
 -- the groups, with another one at the end if there is one to add
 abbrev pub with_group : Option GroupRecord → List GroupRecord → List GroupRecord

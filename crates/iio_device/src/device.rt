@@ -8,7 +8,7 @@ ghost use Rattle.iio_kfifo.specs.Queue.{Queue};
 ghost use Rattle.iio_layout.specs.Layout.{scan_size};
 ghost use Rattle.iio_device.specs.declared.membership.Member.{Member};
 ghost use Rattle.iio_device.specs.declared.membership.Membership.{Membership};
-ghost use Rattle.iio_device.specs.Members.{first_number, is_live_under, mask_count, member_of};
+ghost use Rattle.iio_device.specs.Members.{first_number, id_of, is_live_under, mask_count, member_of};
 ghost use Rattle.iio_device.specs.Roster.{Takes, TakesScans};
 ghost use Rattle.iio_device.specs.Totals.{with_bytes, with_taken};
 ghost use Rattle.iio_device.specs.Device.{new_view, view_of};
@@ -198,7 +198,7 @@ impl Fitted<IioDev<Kfifo>> {
         out: &mut Vec<u8>,
     ) -> Option<u32>
         requires { length out.old.items + most * scan_size self.old.core.roster.shape mask.bits ≤ vec_capacity out.old }
-        ensures taken { TakesScans member.now.number mask.bits most result out.old.items out.new.items
+        ensures taken { TakesScans (id_of member.now.number mask) most result out.old.items out.new.items
             (view_of ⟦<Plug as Sensor>⟧.driver self.old.core self.old.plug).standing (view_of ⟦<Plug as Sensor>⟧.driver self.new.core self.new.plug).standing }
         ensures rest { view_of ⟦<Plug as Sensor>⟧.driver self.new.core self.new.plug
             ≡ record (view_of ⟦<Plug as Sensor>⟧.driver self.old.core self.old.plug) {

@@ -13,7 +13,7 @@ ghost use Rattle.iio_sensor.specs.Driver.{after_capture, ask_fails, values_of};
 ghost use Rattle.iio_device.specs.declared.membership.Membership.{Membership};
 ghost use Rattle.iio_device.specs.Groups.{GroupRecord, IsGroup, has_group};
 ghost use Rattle.iio_device.specs.Active.{active_for};
-ghost use Rattle.iio_device.specs.Members.{WasOffered, first_number, is_live, is_live_under, is_wanted, mask_count, masks_of, member_of, without};
+ghost use Rattle.iio_device.specs.Members.{WasOffered, first_number, id_of, is_live, is_live_under, is_wanted, mask_count, masks_of, member_of, without};
 ghost use Rattle.iio_device.specs.Remasking.{IsRemaskRefusal, Remasks, active_under, remask_fault};
 ghost use Rattle.iio_device.specs.Roster.{Captures, IsRefusal, Joins, Leaves, Takes, TakesScans, active_with, join_fault, nobody, remade_for, with_capture, with_group};
 ghost use Rattle.iio_device.specs.Sound.{HasRoom, IsSize, IsSound, bits_of};
@@ -587,7 +587,7 @@ impl Roster<Kfifo> {
         out: &mut Vec<u8>,
     ) -> Option<u32>
         requires { length out.old.items + most * scan_size self.old.shape mask.bits ≤ vec_capacity out.old }
-        ensures takes { TakesScans number mask.bits most result out.old.items out.new.items (standing_of self.old) (standing_of self.new) }
+        ensures takes { TakesScans (id_of number mask) most result out.old.items out.new.items (standing_of self.old) (standing_of self.new) }
         ensures sized { length out.new.items ≡ length out.old.items + unwrap_or result 0 * scan_size self.old.shape mask.bits }
         ensures room { vec_capacity out.old ≤ vec_capacity out.new }
     {

@@ -5,9 +5,9 @@ use Rattle.iiod_grammar.specs.Stream.{Item}
 use Rattle.iiod_reply.specs.Reply.{Reply, text_of}
 use Rattle.iiod_commands.specs.declared.manner.Manner.TheVariants.{Script}
 use Rattle.iiod_commands.specs.Acts.{act}
-use Rattle.iiod_commands.specs.Client.{ClientRecord}
+use Rattle.iiod_commands.specs.Client.{ClientRecord, State}
 use Rattle.iio_core.specs.Machine.{Machine}
-use Rattle.iiod_session.specs.Run.{FeedTells, State, Tells, client_after, machine_after, texts_of}
+use Rattle.iiod_session.specs.Run.{FeedTells, Tells, client_after, machine_after, texts_of}
 use Rattle.iio_history.specs.Event.{Heard}
 use Rattle.iio_history.specs.Registry.{Setup}
 use Rattle.iio_history.specs.Told.{Told}

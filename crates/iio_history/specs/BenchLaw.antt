@@ -10,9 +10,8 @@ use Rattle.iiod_grammar.specs.Stream.{Item, End}
 use Rattle.iiod_reply.specs.Reply.{Reply, NoMemory}
 use Rattle.iiod_commands.specs.declared.manner.Manner.TheVariants.{Script}
 use Rattle.iiod_commands.specs.Acts.{Acts, act, left_client, left_machine}
-use Rattle.iiod_commands.specs.Client.{ClientRecord}
-use Rattle.iio_core.specs.Machine.{Machine}
-use Rattle.iiod_session.specs.Run.{FeedTells, State, client_after, machine_after, texts_of}
+use Rattle.iiod_commands.specs.Client.{ClientRecord, State}
+use Rattle.iiod_session.specs.Run.{FeedTells, client_after, machine_after, texts_of}
 use Rattle.iio_history.specs.Event.{Event, Arrived, Heard, Dropped}
 use Rattle.iio_history.specs.Registry.{Setup, is_live}
 use Rattle.iio_history.specs.Told.{Station, Told, registry_of, told}
@@ -77,16 +76,16 @@ ItemsAreActs =
     → IsAct s m name item (act (front_of s) (machine_of m) client item)
 
 -- what a session promises of an item over a told state, by the history: running out of memory changes nothing
-abbrev pub TellsAs : Setup → Told → List ℕ → ClientRecord → Item → Reply → Option Machine → ClientRecord → Type 0
-TellsAs s m name client item NoMemory machine client' = (machine ≡ Some (machine_of m)) × (client' ≡ client)
-TellsAs s m name client item answer machine client' =
-    (answer ≡ reply s m name item) × (machine ≡ Some (machine_of (step s m (Heard name item)))) × IsClientOf (step s m (Heard name item)) name client'
+abbrev pub TellsAs : Setup → Told → List ℕ → ClientRecord → Item → Reply → State → Type 0
+TellsAs s m name client item NoMemory b = (b.told ≡ Some (machine_of m)) × (b.client ≡ client)
+TellsAs s m name client item answer b =
+    (answer ≡ reply s m name item) × (b.told ≡ Some (machine_of (step s m (Heard name item)))) × IsClientOf (step s m (Heard name item)) name b.client
 
 abbrev pub ActsTell : Type 0
 ActsTell =
-    (s : Setup) (m : Told) (name : List ℕ) (client : ClientRecord) (item : Item) (answer : Reply) (machine : Option Machine) (client' : ClientRecord)
+    (s : Setup) (m : Told) (name : List ℕ) (client : ClientRecord) (item : Item) (answer : Reply) (b : State)
     → IsBench s m → is_in (names_of m) name ≡ true → IsClientOf m name client → Every CanJoin m.stations
-    → Acts (front_of s) (machine_of m) client item answer machine client' → TellsAs s m name client item answer machine client'
+    → Acts (front_of s) (machine_of m) client item answer b.told b.client → TellsAs s m name client item answer b
 
 -- ---- other events, and other connections
 

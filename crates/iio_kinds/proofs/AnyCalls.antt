@@ -5,7 +5,6 @@ use Rattle.std.specs.List.{list_any}
 use Rattle.iio_desc.specs.Description.{DeviceHead}
 use Rattle.iio_desc.specs.Kind.{Output, Average, is_input, Kind}
 use Rattle.iio_layout.specs.Shape.{ShapeRecord}
-use Rattle.iio_mask.specs.declared.Mask.{Mask}
 use Rattle.iio_trigger.specs.Trigger.{Handed, State}
 use Rattle.iio_core.specs.declared.became.Became.{Became}
 use Rattle.iiod_commands.specs.declared.iio.No.{No}
@@ -24,7 +23,7 @@ use Rattle.iio_kinds.specs.declared.in_device.InDevice.{InDevice}
 use Rattle.iio_kinds.specs.declared.mean_device.MeanSeat.{MeanSeat}
 use Rattle.iio_kinds.specs.declared.out_device.OutDevice.{OutDevice}
 use Rattle.iio_kinds.specs.declared.seat.Seat.{Seat}
-use Rattle.iio_kinds.specs.Faults.{JoinsAny, MayHaveInner}
+use Rattle.iio_kinds.specs.Faults.{Joining, JoinsAny, MayHaveInner}
 use Rattle.iio_kinds.specs.Handling.{IsTakenWhole, entry_capture, entry_station, entry_became, unless_ended}
 use Rattle.iio_kinds.specs.MeanStation.{mean_member}
 use Rattle.iio_kinds.specs.OutStation.{out_station, writers_of}
@@ -41,19 +40,17 @@ pub never_cyclic : (cyclic : Bool) → (cyclic && true) ≡ false → cyclic ≡
 never_cyclic true e = e
 never_cyclic false e = refl
 
-pub joins_once : (mask : Mask) (capacity : ℕ) (cyclic : Bool) (inner : Option ℕ) (number : ℕ) (shape : ShapeRecord) (result : Result Seat No)
-    (old new : Station) (trigger trigger' : State) → (cyclic && true) ≡ false → JoinsAny mask capacity false inner number shape result old new trigger trigger'
-    → JoinsAny mask capacity cyclic inner number shape result old new trigger trigger'
-joins_once mask capacity cyclic inner number shape result old new trigger trigger' once joins =
-    subst (λ (b : Bool). JoinsAny mask capacity b inner number shape result old new trigger trigger') (sym (never_cyclic cyclic once)) joins
+pub joins_once : (w : Joining) (result : Result Seat No) (old new : Station) (trigger trigger' : State) → (w.cyclic && true) ≡ false
+    → JoinsAny (record w { cyclic = false }) result old new trigger trigger' → JoinsAny w result old new trigger trigger'
+joins_once w result old new trigger trigger' once joins =
+    subst (λ (b : Bool). JoinsAny (record w { cyclic = b }) result old new trigger trigger') (sym (never_cyclic w.cyclic once)) joins
 
-pub joins_output : (d : DeviceHead) (st : Station) (mask : Mask) (capacity : ℕ) (cyclic : Bool) (inner : Option ℕ) (number : ℕ) (shape : ShapeRecord)
-    (result : Result Seat No) (old new : Station) (trigger trigger' : State) → is_input d.kind ≡ false
-    → IfSome inner (MayHaveInner d mask.bits capacity st) → JoinsAny mask capacity cyclic None number shape result old new trigger trigger'
-    → JoinsAny mask capacity cyclic inner number shape result old new trigger trigger'
-joins_output d st mask capacity cyclic inner number shape result old new trigger trigger' other may joins =
-    subst (λ (o : Option ℕ). JoinsAny mask capacity cyclic o number shape result old new trigger trigger')
-    (sym (none_inner d mask.bits capacity st inner other may)) joins
+pub joins_output : (d : DeviceHead) (st : Station) (w : Joining) (result : Result Seat No) (old new : Station) (trigger trigger' : State)
+    → is_input d.kind ≡ false → IfSome w.inner (MayHaveInner d w.mask.bits w.capacity st)
+    → JoinsAny (record w { inner = None }) result old new trigger trigger' → JoinsAny w result old new trigger trigger'
+joins_output d st w result old new trigger trigger' other may joins =
+    subst (λ (o : Option ℕ). JoinsAny (record w { inner = o }) result old new trigger trigger')
+    (sym (none_inner d w.mask.bits w.capacity st w.inner other may)) joins
 
 -- a choice between two that are the same
 pub either : {A : Type 0} (b : Bool) (x : A) → cond b x x ≡ x

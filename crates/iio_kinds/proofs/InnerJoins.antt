@@ -29,7 +29,7 @@ use Rattle.iio_core.specs.Machine.{Member, Station, is_seat_of, masks_of, member
 use Rattle.iio_kinds.specs.declared.in_device.Inner.{Inner}
 use Rattle.iio_kinds.specs.declared.seat.Seat.{Seat}
 use Rattle.iio_kinds.specs.Acting.{Acts, turned}
-use Rattle.iio_kinds.specs.Faults.{JoinsAny}
+use Rattle.iio_kinds.specs.Faults.{JoinsAny, joining_of}
 use Rattle.iio_kinds.specs.Inner.{AreApart, AreIdle, HasInners, inner_at, number_of, average_of, with_inner_name}
 use Rattle.iio_kinds.specs.Remasking.{remask_answer}
 use Rattle.iio_kinds.specs.Station.{member_of}
@@ -214,8 +214,8 @@ module _ (mask capacity : ℕ) (inners : List Inner) (st : Station) (none : inne
 
 module _ (mask : Mask) (capacity number : ℕ) (shape : ShapeRecord) (inners : List Inner) where
   pub joins_named : (result : Result Seat No) (old new : Station) (trigger trigger' : State) → inner_at inners old.next ≡ None
-      → JoinsAny mask capacity false None number shape result old new trigger trigger'
-      → JoinsAny mask capacity false None number shape result (named inners old) (named inners new) trigger trigger'
+      → JoinsAny (joining_of number shape mask capacity false None) result old new trigger trigger'
+      → JoinsAny (joining_of number shape mask capacity false None) result (named inners old) (named inners new) trigger trigger'
   joins_named (Ok seat) old new trigger trigger' none j =
       (j.0, ap (named inners) j.1 ∙ joined_named mask.bits capacity inners old none, j.2 ∙ sym (place_taken_named inners number old trigger))
   joins_named (Err refusal) old new trigger trigger' none j = (j.0, ap (named inners) j.1, j.2)
@@ -225,7 +225,7 @@ abbrev pub MoreOrSame : (more : Member) → (old new : List Member) → Type 0
 MoreOrSame more old new = (b : Bool) × (new ≡ cond b (old ++ more ∷ []) old)
 
 pub members_joined : (mask : Mask) (capacity number : ℕ) (shape : ShapeRecord) (result : Result Seat No) (old new : Station) (trigger trigger' : State)
-    → JoinsAny mask capacity false None number shape result old new trigger trigger'
+    → JoinsAny (joining_of number shape mask capacity false None) result old new trigger trigger'
     → MoreOrSame (newcomer mask.bits capacity false None old) old.members new.members
 members_joined mask capacity number shape (Ok seat) old new trigger trigger' j = (true, ap (λ (st : Station). st.members) j.1)
 members_joined mask capacity number shape (Err refusal) old new trigger trigger' j = (false, ap (λ (st : Station). st.members) j.1)
@@ -391,8 +391,8 @@ told_below shape captures next ms each =
 module _ (mask : Mask) (j number : ℕ) (shape : ShapeRecord) (inners : List Inner) where
   pub inner_joins : (seat : Seat) (old new : Station) (trigger trigger' : State) (capacity : ℕ) → inner_at inners old.next ≡ None
       → AllByRecursion (λ (x : Member). x.number < old.next) old.members
-      → JoinsAny mask capacity false None number shape (Ok seat) old new trigger trigger'
-      → JoinsAny mask capacity false (Some j) number shape (Ok seat) (named inners old)
+      → JoinsAny (joining_of number shape mask capacity false None) (Ok seat) old new trigger trigger'
+      → JoinsAny (joining_of number shape mask capacity false (Some j)) (Ok seat) (named inners old)
       (named (inners ++ record { number = seat.number; average = j } ∷ []) new) trigger trigger'
   inner_joins seat old new trigger trigger' capacity none below joins = (
     joins.0,

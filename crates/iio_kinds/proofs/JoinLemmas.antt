@@ -27,7 +27,7 @@ use Rattle.iio_core.specs.Devices.{queue_waits}
 use Rattle.iio_core.proofs.DeviceLaws.{agree, joined_is as plain_joined, masks_are as plain_masks}
 use Rattle.iio_kinds.specs.declared.seat.Seat.{Seat}
 use Rattle.iio_kinds.specs.Acting.{KeepsCaptures}
-use Rattle.iio_kinds.specs.Faults.{Hosts, HostsAny, JoinsAny, JoinsBy, any_refusals, faults_at, first_queue, is_full as is_full_at, lacks_place}
+use Rattle.iio_kinds.specs.Faults.{Hosts, HostsAny, JoinsAny, JoinsBy, any_refusals, faults_at, first_queue, is_full as is_full_at, joining_of, lacks_place}
 use Rattle.iio_kinds.specs.Station.{member_of, station_of}
 use Rattle.iio_kinds.proofs.EmptyLemmas.{is_empty-map}
 use Rattle.iio_kinds.proofs.CallLemmas.{keeps_along}
@@ -98,7 +98,7 @@ joined_is mask capacity d =
     (record { none = refl; unlost = refl }))
 
 pub joins_any : (mask : Mask) (capacity : ℕ) (r : Result Seat No) (d d' : DeviceView Queue) (s s' : State) → JoinsBy mask capacity r d d' s s'
-    → JoinsAny mask capacity false None d.number d.standing.shape r (station_of d) (station_of d') s s'
+    → JoinsAny (joining_of d.number d.standing.shape mask capacity false None) r (station_of d) (station_of d') s s'
 joins_any mask capacity (Ok seat) d d' s s' j = (
   j.0,
   ap station_of j.1 ∙ joined_is mask capacity d,

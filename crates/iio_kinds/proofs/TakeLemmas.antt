@@ -190,7 +190,7 @@ none_taken (suc most) (scan ∷ scans) some e = absurd (omega (arith, e))
 module _ (id : MemberId) (most : ℕ) (before after : List ℕ) (v v' : DeviceView Queue)
     (distinct : IsDistinct (λ a b. a == b) (map (λ (m : Membership Queue). m.number) v.standing.members)) where
   -- the member is there
-  module _ (count : ℕ) (takes : TakesScans id.number id.mask most (Some count) before after v.standing v'.standing)
+  module _ (count : ℕ) (takes : TakesScans id most (Some count) before after v.standing v'.standing)
       (rest : v' ≡ record v { standing = v'.standing; totals = with_bytes count (drop (length before) after) v.totals }) where
     under : IsUnder id (membership_of id.number v.standing.members)
     under = under_is id v.standing.members distinct takes.0
@@ -239,17 +239,17 @@ module _ (id : MemberId) (most : ℕ) (before after : List ℕ) (v v' : DeviceVi
         )
 
   -- at most as many were taken as were asked for, and no more bytes
-  few_taken : (result : Option ℕ) → TakesScans id.number id.mask most result before after v.standing v'.standing → unwrap_or result 0 ≤ most
+  few_taken : (result : Option ℕ) → TakesScans id most result before after v.standing v'.standing → unwrap_or result 0 ≤ most
   few_taken None takes = omega arith
   few_taken (Some count) takes = let given = takes.2.moved.moved.count in omega (arith, given)
 
-  pub bytes_within : (result : Option ℕ) (size : ℕ) → TakesScans id.number id.mask most result before after v.standing v'.standing
+  pub bytes_within : (result : Option ℕ) (size : ℕ) → TakesScans id most result before after v.standing v'.standing
       → length after ≡ length before + unwrap_or result 0 * size
       → length after ≤ length before + most * size
   bytes_within result size takes sized = omega (arith, sized, mul-le-mul_right size (few_taken result takes))
 
   -- by what the device returns
-  pub no_scans_taken : (took : Took) (result : Option ℕ) → TakesScans id.number id.mask most result before after v.standing v'.standing
+  pub no_scans_taken : (took : Took) (result : Option ℕ) → TakesScans id most result before after v.standing v'.standing
       → v' ≡ record v { standing = v'.standing; totals = with_bytes (unwrap_or result 0) (drop (length before) after) v.totals } → 1 ≤ most
       → unwrap_or result 0 ≡ 0 → took ≡ nothing_at (station_of v')
       → TakesScansAt id most took before after (station_of v) (station_of v')
@@ -262,7 +262,7 @@ module _ (id : MemberId) (most : ℕ) (before after : List ℕ) (v v' : DeviceVi
       no_scans id took v v' (scans_absent id v.standing.members takes.0) same e most before after takes.2
   no_scans_taken took (Some count) takes rest some count-is e = none_waiting count takes rest took some count-is e
 
-  pub scans_taken : (result : Option ℕ) (count : ℕ) → TakesScans id.number id.mask most result before after v.standing v'.standing
+  pub scans_taken : (result : Option ℕ) (count : ℕ) → TakesScans id most result before after v.standing v'.standing
       → v' ≡ record v { standing = v'.standing; totals = with_bytes (unwrap_or result 0) (drop (length before) after) v.totals } → result ≡ Some count
       → 0 < count
       → TakesScansAt id most Scan before after (station_of v) (station_of v')

@@ -8,11 +8,11 @@ use Rattle.iio_attr.specs.declared.attributes.Scope.TheVariants as scope
 use Rattle.iio_attr.specs.declared.values.Value.{Value}
 use Rattle.iio_attr.specs.Attributes.{row_of}
 use Rattle.iio_kfifo.specs.Queue.{Queue}
-use Rattle.iio_mask.specs.declared.Mask.{Mask}
 use Rattle.iio_desc.specs.Description.{DeviceHead}
 use Rattle.iio_desc.specs.Kind.{Input}
 use Rattle.iio_device.specs.declared.membership.Membership.{Membership}
 use Rattle.iio_device.specs.Device.{DeviceView}
+pub use Rattle.iio_device.specs.Members.{id_of}
 use Rattle.iio_device.specs.Site.{sampled}
 use Rattle.iio_device.specs.Totals.{with_given, with_scan}
 use Rattle.iiod_commands.specs.declared.iio.No.{No}
@@ -51,10 +51,6 @@ Reads d t channel a old result new =
 -- a read of an input device's attribute
 abbrev pub ReadsInput : ℤ → Option ℕ → Attr → DeviceView Queue → Result Value No → Station → Type 0
 ReadsInput t channel a d result new = Reads (record { name = d.name; kind = Input; shape = d.standing.shape }) t channel a (station_of d) result new
-
--- a member's number and mask, which identify it
-abbrev pub id_of : ℕ → Mask → MemberId
-id_of number mask = record { number = number; mask = mask.bits }
 
 -- whether it is that member
 abbrev pub is_member : MemberId → Membership Queue → Bool

@@ -80,14 +80,27 @@ HostsAny states kind number shape st mask (Err (NoErrno errno)) =
     first_refusal (any_refusals (lacks_place number states st.site.trigger) kind shape st mask) ≡ Some errno
 HostsAny states kind number shape st mask (Err NoMem) = Unit {0}
 
+-- a joining: the device's number and shape, the new member's mask and capacity, whether its scans come round again, and the
+-- averaging device whose inner member it is, if any
+pub record Joining : Type 0 where
+  pub number : ℕ
+  pub shape : ShapeRecord
+  pub mask : Mask
+  pub capacity : ℕ
+  pub cyclic : Bool
+  pub inner : Option ℕ
+
+abbrev pub joining_of : (number : ℕ) → ShapeRecord → Mask → (capacity : ℕ) → (cyclic : Bool) → (inner : Option ℕ) → Joining
+joining_of number shape mask capacity cyclic inner =
+    record { number = number; shape = shape; mask = mask; capacity = capacity; cyclic = cyclic; inner = inner }
+
 -- a member joins, and has a place; if memory ran out, nothing changes
-abbrev pub JoinsAny : Mask → (capacity : ℕ) → (cyclic : Bool) → (inner : Option ℕ) → (number : ℕ) → ShapeRecord → Result Seat No → (old new : Station)
-    → (trigger trigger' : State) → Type 0
-JoinsAny mask capacity cyclic inner number shape (Ok seat) old new trigger trigger' =
-    (seat ≡ record { number = old.next; mask = mask; size = scan_size shape mask.bits; capacity = capacity })
-    × (new ≡ station_after_join mask.bits capacity cyclic inner old)
-    × (trigger' ≡ place_taken number old trigger)
-JoinsAny mask capacity cyclic inner number shape (Err refusal) old new trigger trigger' = (refusal ≡ NoMem) × (new ≡ old) × (trigger' ≡ trigger)
+abbrev pub JoinsAny : Joining → Result Seat No → (old new : Station) → (trigger trigger' : State) → Type 0
+JoinsAny j (Ok seat) old new trigger trigger' =
+    (seat ≡ record { number = old.next; mask = j.mask; size = scan_size j.shape j.mask.bits; capacity = j.capacity })
+    × (new ≡ station_after_join j.mask.bits j.capacity j.cyclic j.inner old)
+    × (trigger' ≡ place_taken j.number old trigger)
+JoinsAny j (Err refusal) old new trigger trigger' = (refusal ≡ NoMem) × (new ≡ old) × (trigger' ≡ trigger)
 
 -- ---- averaging devices
 

@@ -25,7 +25,7 @@ ghost use Rattle.iio_core.specs.Machine.{Station, scans_in, with_site};
 ghost use Rattle.iio_core.specs.Moves.{Capture, kind_sensed, station_after_look};
 ghost use Rattle.iio_core.specs.Trigger.{entry_of};
 ghost use Rattle.iio_kinds.specs.Acting.{Acts, MayReadOf, Reads, TakesAt, TakesScansAt, id_of, lost_in};
-ghost use Rattle.iio_kinds.specs.Faults.{HasJoined, HostsAny, IsServedAlone, JoinsAny, JoinsMean, MayHaveInner, any_refusals};
+ghost use Rattle.iio_kinds.specs.Faults.{HasJoined, HostsAny, IsServedAlone, JoinsAny, JoinsMean, MayHaveInner, any_refusals, joining_of};
 ghost use Rattle.iio_kinds.specs.Handling.{IsRoom, IsScanOf, IsTakenWhole, counted, entry_capture, entry_station, is_last, kind_gathered, entry_became};
 ghost use Rattle.iio_kinds.specs.Places.{has_in_hand, is_hosted, place_left, trigger_of};
 ghost use Rattle.iio_kinds.specs.Remasking.{remask_answer};
@@ -214,7 +214,7 @@ impl AnyDevice {
         requires channel { has_data (any_front self.old).shape mask.bits ≡ true }
         requires some { 1 ≤ capacity }
         requires bytes { capacity * scan_size (any_front self.old).shape mask.bits ≤ MAX_BYTES }
-        ensures joins { JoinsAny mask capacity cyclic inner (number_by self.old) (any_front self.old).shape result
+        ensures joins { JoinsAny (joining_of (number_by self.old) (any_front self.old).shape mask capacity cyclic inner) result
             (any_station ⟦<Plug as Sensor>⟧.driver self.old) (any_station ⟦<Plug as Sensor>⟧.driver self.new) trigger.old trigger.new }
         ensures keeps { KeepsFront self.old self.new }
     {

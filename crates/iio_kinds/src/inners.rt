@@ -18,7 +18,7 @@ ghost use Rattle.iiod_commands.specs.declared.iio.No.TheVariants.{Mem};
 ghost use Rattle.iio_core.specs.Calls.{ev_open_answer, ev_read_answer, holds_events, inner_gone, is_inner_of, station_after_leave, station_after_remask, trigger_answer};
 ghost use Rattle.iio_core.specs.Machine.{scans_in, with_site};
 ghost use Rattle.iio_kinds.specs.Acting.{Acts, KeepsCaptures, Reads, TakesAt, TakesScansAt, id_of, lost_in};
-ghost use Rattle.iio_kinds.specs.Faults.{HostsAny, IsServedAlone, JoinsAny, MayHaveInner, any_refusals};
+ghost use Rattle.iio_kinds.specs.Faults.{HostsAny, IsServedAlone, JoinsAny, MayHaveInner, any_refusals, joining_of};
 ghost use Rattle.iio_kinds.specs.Handling.{IsTakenWhole, counted, entry_capture, entry_station, is_last, entry_became};
 ghost use Rattle.iio_core.specs.Moves.{sensed_answer, station_after_look};
 ghost use Rattle.iio_core.specs.declared.became.Became.TheVariants.{Asked};
@@ -168,7 +168,7 @@ impl InDevice {
         requires channel { has_data self.old.device.core.roster.shape mask.bits ≡ true }
         requires some { 1 ≤ capacity }
         requires bytes { capacity * scan_size self.old.device.core.roster.shape mask.bits ≤ MAX_BYTES }
-        ensures joins { JoinsAny mask capacity false inner self.old.device.core.number self.old.device.core.roster.shape result
+        ensures joins { JoinsAny (joining_of self.old.device.core.number self.old.device.core.roster.shape mask capacity false inner) result
             (in_station ⟦<Plug as Sensor>⟧.driver self.old) (in_station ⟦<Plug as Sensor>⟧.driver self.new) trigger.old trigger.new }
         ensures keeps { KeepsInCaptures self.old self.new }
     {
@@ -196,7 +196,7 @@ impl InDevice {
         requires channel { has_data self.old.device.core.roster.shape mask.bits ≡ true }
         requires some { 1 ≤ capacity }
         requires bytes { capacity * scan_size self.old.device.core.roster.shape mask.bits ≤ MAX_BYTES }
-        ensures joins { JoinsAny mask capacity false (Some average) self.old.device.core.number self.old.device.core.roster.shape result
+        ensures joins { JoinsAny (joining_of self.old.device.core.number self.old.device.core.roster.shape mask capacity false (Some average)) result
             (in_station ⟦<Plug as Sensor>⟧.driver self.old) (in_station ⟦<Plug as Sensor>⟧.driver self.new) trigger.old trigger.new }
         ensures keeps { KeepsInCaptures self.old self.new }
     {

@@ -9,7 +9,7 @@ ghost use Rattle.iio_kfifo.specs.declared.limits.TheConstants.{MAX_BYTES};
 ghost use Rattle.iio_desc.specs.Kind.{Input};
 ghost use Rattle.iio_device.specs.Device.{has_no_place, join_faults};
 ghost use Rattle.iio_kinds.specs.Acting.{KeepsCaptures};
-ghost use Rattle.iio_kinds.specs.Faults.{Hosts, HostsAny, JoinsAny, JoinsBy, any_refusals};
+ghost use Rattle.iio_kinds.specs.Faults.{Hosts, HostsAny, JoinsAny, JoinsBy, any_refusals, joining_of};
 ghost use Rattle.iio_kinds.specs.Places.{is_hosted};
 ghost use Rattle.iio_kinds.specs.Station.{station_by, view_by};
 
@@ -118,7 +118,7 @@ pub(crate) fn join_input(
     requires channel { has_data device.old.core.roster.shape mask.bits ≡ true }
     requires some { 1 ≤ capacity }
     requires bytes { capacity * scan_size device.old.core.roster.shape mask.bits ≤ MAX_BYTES }
-    ensures joins { JoinsAny mask capacity false None device.old.core.number device.old.core.roster.shape result
+    ensures joins { JoinsAny (joining_of device.old.core.number device.old.core.roster.shape mask capacity false None) result
         (station_by ⟦<Plug as Sensor>⟧.driver device.old) (station_by ⟦<Plug as Sensor>⟧.driver device.new) trigger.old trigger.new }
     ensures keeps { KeepsCaptures (view_by ⟦<Plug as Sensor>⟧.driver device.old) (view_by ⟦<Plug as Sensor>⟧.driver device.new) }
 {

@@ -16,7 +16,7 @@ ghost use Rattle.iio_device.specs.Site.{unplugged};
 ghost use Rattle.iio_core.specs.Machine.{member_in, scans_in, with_site};
 ghost use Rattle.iio_core.specs.Moves.{station_after_entry, gave_answer, is_due, station_after_look, sensed_answer};
 ghost use Rattle.iio_kinds.specs.Acting.{Acts, MayReadOf, Reads, id_of, lost_in};
-ghost use Rattle.iio_kinds.specs.Faults.{HostsAny, JoinsAny, any_refusals, lacks_place};
+ghost use Rattle.iio_kinds.specs.Faults.{HostsAny, JoinsAny, any_refusals, joining_of, lacks_place};
 ghost use Rattle.iio_kinds.specs.Handling.{IsGiven};
 ghost use Rattle.iio_kinds.specs.OutStation.{KeepsOut, answer_of, first_out_station, nowhere_answer, out_head, out_station};
 ghost use Rattle.iio_kinds.specs.Places.{place_left};
@@ -127,8 +127,8 @@ impl OutDevice {
         requires channel { has_data self.old.out.shape mask.bits ≡ true }
         requires some { 1 ≤ capacity }
         requires bytes { capacity * scan_size self.old.out.shape mask.bits ≤ MAX_BYTES }
-        ensures joins { JoinsAny mask capacity cyclic None self.old.number self.old.out.shape result (out_station self.old) (out_station self.new) trigger.old
-            trigger.new }
+        ensures joins { JoinsAny (joining_of self.old.number self.old.out.shape mask capacity cyclic None) result (out_station self.old)
+            (out_station self.new) trigger.old trigger.new }
         ensures keeps { KeepsOut self.old self.new }
     {
         let size = scan_size(self.out.shape(), mask);

@@ -8,11 +8,10 @@ use Rattle.iio_desc.specs.DescReader.{Reader, after_line, ended_by, new_reader}
 use Rattle.iio_desc.specs.Lines.{is_end}
 use Rattle.iio_history.specs.Input.{ended_part}
 use Rattle.iio_history.specs.Outcome.{Cut, Faulty, Head, described, head_from}
-use Rattle.iio_history.specs.Registry.{Setup}
 use Rattle.iio_history.specs.Script.{Finished, script_from, script_text}
 use Rattle.iio_script.specs.declared.line_reader.Found.{Found}
 use Rattle.iio_script.specs.LineReader.{Follows, Hand, IsHand, NeedsMore, taken_of}
-use Rattle.iio_script.specs.Plays.{AnswersScript}
+use Rattle.iio_script.specs.Plays.{AnswersScript, Start}
 use Rattle.iio_script.specs.Told.{TakesUnended}
 use Rattle.iio_script.proofs.FrontLaws.{end_count}
 use Rattle.iio_script.proofs.HandLaws.{going_of}
@@ -73,11 +72,10 @@ unended_none drivers input = record { count = 0; rest = refl; before = 0; near =
 -- ---- the script
 
 -- more was written
-pub answers_more : (s : Setup) (first : ℕ) (front : List (List ℕ)) (input sent more : List ℕ) (begin left : Option (List ℕ))
-    → AnswersScript s first front input sent begin left
-    → AnswersScript s first front input (sent ++ more) begin left
-answers_more s first front input sent more begin left (inl same) = inl same
-answers_more s first front input sent more begin left (inr a) = inr (record {
+pub answers_more : (start : Start) (input sent more : List ℕ) (begin left : Option (List ℕ)) → AnswersScript start input sent begin left
+    → AnswersScript start input (sent ++ more) begin left
+answers_more start input sent more begin left (inl same) = inl same
+answers_more start input sent more begin left (inr a) = inr (record {
   count = a.count;
   rest = a.rest;
   before = a.before;
@@ -85,24 +83,25 @@ answers_more s first front input sent more begin left (inr a) = inr (record {
   given = a.given;
   lines = a.lines;
   more = a.more ++ more;
-  written = ap (λ t. t ++ more) a.written ∙ append_assoc (script_text s (script_from s.desc Finished [] first a.given)) a.more more;
+  written = ap (λ t. t ++ more) a.written ∙ append_assoc (script_text start.setup (script_from start.setup.desc Finished [] start.first a.given)) a.more more;
 })
 
 -- all was written, and after that a read was made
-pub answers_found : (s : Setup) (first : ℕ) (front given : List (List ℕ)) (input sent : List ℕ) (h : Hand) (begin left : Option (List ℕ)) → IsHand h
-    → sent ≡ script_text s (script_from s.desc Finished [] first given) → h.over ≡ false → Follows input (front ++ given) h left
-    → AnswersScript s first front input sent begin left
-answers_found s first front given input sent h begin left is all going follows =
-    let goes = going_of input (front ++ given) h left going follows in
+pub answers_found : (start : Start) (given : List (List ℕ)) (input sent : List ℕ) (h : Hand) (begin left : Option (List ℕ)) → IsHand h
+    → sent ≡ script_text start.setup (script_from start.setup.desc Finished [] start.first given) → h.over ≡ false
+    → Follows input (start.front ++ given) h left
+    → AnswersScript start input sent begin left
+answers_found start given input sent h begin left is all going follows =
+    let goes = going_of input (start.front ++ given) h left going follows in
     inr (record {
       count = taken_of h;
-      rest = (taken_front input (front ++ given) h left goes).1;
+      rest = (taken_front input (start.front ++ given) h left goes).1;
       before = h.given + h.looked;
       near = omega (arith, is.near);
       given = given;
-      lines = scanned_given input (front ++ given) h left is goes;
+      lines = scanned_given input (start.front ++ given) h left is goes;
       more = [];
-      written = all ∙ sym (append-nil (script_text s (script_from s.desc Finished [] first given)));
+      written = all ∙ sym (append-nil (script_text start.setup (script_from start.setup.desc Finished [] start.first given)));
     })
 
 -- a line that a look has found needs no read; before any other, nothing was kept

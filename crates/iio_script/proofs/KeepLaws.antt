@@ -18,8 +18,8 @@ use Rattle.iio_system.specs.Standing.{StandsFor, names_by, names_with}
 use Rattle.iio_worlds.specs.Bystanders.{only_bystanders}
 use Rattle.iio_worlds.specs.KeptOn.{KeptGoesOn, kept_on}
 use Rattle.iio_worlds.specs.Worlds.{is_others}
-use Rattle.iio_script.specs.Keeps.{KeepsOn, KeepsStep, kept_at_end, kept_of_lines}
-use Rattle.iio_script.specs.Plays.{AreSame}
+use Rattle.iio_script.specs.Keeps.{Excerpt, KeepsOn, KeepsStep, excerpt_of, kept_at_end, kept_of_lines}
+use Rattle.iio_script.specs.Plays.{AreSame, Progress, progress_of, with_line}
 use Rattle.iio_script.proofs.PlayLaws.{is_over, is_refused, means_nothing, same_after, same_kept, says_step}
 
 -- ---- a script's first line, with its number
@@ -43,57 +43,59 @@ kept_part false text lines = sym (take_all (length (text ++ lines)) (text ++ lin
 module _ {X : Type 0} {V : X → Type 0} (driver : Plug X V → Driver) where
   -- after an offence a step is only performed
   pub step_made : KeptGoesOn
-      → (s : Setup) (a : List ℕ) (h : List Event) (n : ℕ) (t : Step) (offence : Option ℕ) (b : Bool) (text text' : List ℕ) (x' : System X V)
-      → b ≡ is_some offence → b ≡ true → StandsFor driver s (with_step s h t) x' → KeepsStep driver s a h n t offence offence text text' x'
-  step_made law s a h n t None b text text' x' is some stands = let never : true ≡ false = sym some ∙ is in cc
-  step_made law s a h n t (Some line) b text text' x' is some stands = record {
+      → (s : Setup) (a : List ℕ) (h : List Event) (t : Numbered) (offence : Option ℕ) (b : Bool) (text text' : List ℕ) (x' : System X V)
+      → b ≡ is_some offence → b ≡ true → StandsFor driver s (with_step s h t.step) x'
+      → KeepsStep driver s a h t (excerpt_of offence text) (excerpt_of offence text') x'
+  step_made law s a h t None b text text' x' is some stands = let never : true ≡ false = sym some ∙ is in cc
+  step_made law s a h t (Some line) b text text' x' is some stands = record {
     stands = stands;
     neutral = λ none. cc;
-    kept = λ ts ending. (law s a ending).3 line text h (record { number = n; step = t }) ts text' (with_step s h t);
+    kept = λ ts ending. (law s a ending).3 line text h t ts text' (with_step s h t.step);
   }
 
   -- a step against the rules
   pub step_offends : KeptGoesOn
-      → (s : Setup) (a : List ℕ) (h : List Event) (n : ℕ) (t : Step) (offence : Option ℕ) (b meets : Bool) (text text' : List ℕ) (x' : System X V)
+      → (s : Setup) (a : List ℕ) (h : List Event) (t : Numbered) (offence : Option ℕ) (b meets : Bool) (text text' : List ℕ) (x' : System X V)
       → b ≡ is_some offence → b ≡ false → ((offence ≡ None → only_bystanders s a h ≡ true))
-      → (only_bystanders s a h ≡ true → meets ≡ only_bystanders s a (with_step s h t)) → meets ≡ false → StandsFor driver s (with_step s h t) x'
-      → KeepsStep driver s a h n t offence (Some n) text text' x'
-  step_offends law s a h n t (Some line) b meets text text' x' is none neutral decides against stands = let never : false ≡ true = sym none ∙ is in cc
-  step_offends law s a h n t None b meets text text' x' is none neutral decides against stands =
-      let offends : only_bystanders s a (with_step s h t) ≡ false = sym (decides (neutral refl)) ∙ against in
+      → (only_bystanders s a h ≡ true → meets ≡ only_bystanders s a (with_step s h t.step)) → meets ≡ false → StandsFor driver s (with_step s h t.step) x'
+      → KeepsStep driver s a h t (excerpt_of offence text) (excerpt_of (Some t.number) text') x'
+  step_offends law s a h t (Some line) b meets text text' x' is none neutral decides against stands = let never : false ≡ true = sym none ∙ is in cc
+  step_offends law s a h t None b meets text text' x' is none neutral decides against stands =
+      let offends : only_bystanders s a (with_step s h t.step) ≡ false = sym (decides (neutral refl)) ∙ against in
       record {
         stands = stands;
         neutral = λ none. cc;
-        kept = λ ts ending. (law s a ending).2 text h (record { number = n; step = t }) ts offends text' (with_step s h t);
+        kept = λ ts ending. (law s a ending).2 text h t ts offends text' (with_step s h t.step);
       }
 
   -- a step that meets the rules
   pub step_kept : KeptGoesOn
-      → (s : Setup) (a : List ℕ) (h : List Event) (n : ℕ) (t : Step) (offence : Option ℕ) (b meets : Bool) (text whole text' : List ℕ) (count : ℕ)
+      → (s : Setup) (a : List ℕ) (h : List Event) (t : Numbered) (offence : Option ℕ) (b meets : Bool) (text whole text' : List ℕ) (count : ℕ)
       (x' : System X V)
       → b ≡ is_some offence → b ≡ false → ((offence ≡ None → only_bystanders s a h ≡ true))
-      → (only_bystanders s a h ≡ true → meets ≡ only_bystanders s a (with_step s h t)) → meets ≡ true → StandsFor driver s (with_step s h t) x'
-      → whole ≡ text ++ lines_of_step s h t → count ≡ cond (is_others a t) (length text) (length whole) → text' ≡ take count whole
-      → KeepsStep driver s a h n t offence offence text text' x'
-  step_kept law s a h n t (Some line) b meets text whole text' count x' is none neutral decides keeps stands printed counted cut =
+      → (only_bystanders s a h ≡ true → meets ≡ only_bystanders s a (with_step s h t.step)) → meets ≡ true → StandsFor driver s (with_step s h t.step) x'
+      → whole ≡ text ++ lines_of_step s h t.step → count ≡ cond (is_others a t.step) (length text) (length whole) → text' ≡ take count whole
+      → KeepsStep driver s a h t (excerpt_of offence text) (excerpt_of offence text') x'
+  step_kept law s a h t (Some line) b meets text whole text' count x' is none neutral decides keeps stands printed counted cut =
       let never : false ≡ true = sym none ∙ is in cc
-  step_kept law s a h n t None b meets text whole text' count x' is none neutral decides keeps stands printed counted cut =
-      let still : only_bystanders s a (with_step s h t) ≡ true = sym (decides (neutral refl)) ∙ keeps in
-      let part : text' ≡ take (cond (is_others a t) (length text) (length (text ++ lines_of_step s h t))) (text ++ lines_of_step s h t) =
+  step_kept law s a h t None b meets text whole text' count x' is none neutral decides keeps stands printed counted cut =
+      let still : only_bystanders s a (with_step s h t.step) ≡ true = sym (decides (neutral refl)) ∙ keeps in
+      let part : text' ≡ take (cond (is_others a t.step) (length text) (length (text ++ lines_of_step s h t.step))) (text ++ lines_of_step s h t.step) =
       cut ∙ ap (λ (k : ℕ). take k whole) counted
-      ∙ ap (λ (w : List ℕ). take (cond (is_others a t) (length text) (length w)) w) printed in
-      let left : text ++ cond (is_others a t) [] (lines_of_step s h t) ≡ text' = kept_part (is_others a t) text (lines_of_step s h t) ∙ sym part in
+      ∙ ap (λ (w : List ℕ). take (cond (is_others a t.step) (length text) (length w)) w) printed in
+      let left : text ++ cond (is_others a t.step) [] (lines_of_step s h t.step) ≡ text' =
+      kept_part (is_others a t.step) text (lines_of_step s h t.step) ∙ sym part in
       record {
         stands = stands;
         neutral = λ none. still;
         kept = λ ts ending.
-            (law s a ending).1 text h (record { number = n; step = t }) ts still ∙ ap (λ (w : List ℕ). kept_on s a None w (with_step s h t) ts ending) left;
+            (law s a ending).1 text h t ts still ∙ ap (λ (w : List ℕ). kept_on s a None w (with_step s h t.step) ts ending) left;
       }
 
   -- ---- a run that has reached a line
 
   pub keeps_first : KeptGoesOn → (s : Setup) (a : List ℕ) (x : System X V) (first : ℕ) → names_by x ≡ [] → StandsFor driver s [] x
-      → KeepsOn driver s a x None [] first first []
+      → KeepsOn driver s a x (excerpt_of None []) (progress_of first first [])
   keeps_first law s a x first none stands = record {
     done = [];
     names = [];
@@ -104,33 +106,33 @@ module _ {X : Type 0} {V : X → Type 0} (driver : Plug X V → Driver) where
   }
 
   -- a line that means nothing
-  pub keeps_past : (s : Setup) (a : List ℕ) (x : System X V) (offence : Option ℕ) (text : List ℕ) (first n : ℕ) (given : List (List ℕ)) (line : List ℕ)
-      → step_of s.desc line ≡ Ok None
-      → KeepsOn driver s a x offence text first n given → KeepsOn driver s a x offence text first (n + 1) (given ++ line ∷ [])
-  keeps_past s a x offence text first n given line said keeps = record {
+  pub keeps_past : (s : Setup) (a : List ℕ) (x : System X V) (excerpt : Excerpt) (run : Progress) (line : List ℕ) → step_of s.desc line ≡ Ok None
+      → KeepsOn driver s a x excerpt run → KeepsOn driver s a x excerpt (with_line run line)
+  keeps_past s a x excerpt run line said keeps = record {
     done = keeps.done;
     names = keeps.names;
     stands = keeps.stands;
     same = keeps.same;
     neutral = keeps.neutral;
     kept = λ ending lines.
-        sym (ap (λ (ts : List Numbered). kept_on s a offence text keeps.done ts (script_from s.desc ending keeps.names n (line ∷ lines)).ending)
-        (numbered_nothing s.desc keeps.names n line lines said)
-        ∙ ap (λ (script : Script). kept_on s a offence text keeps.done (numbered_from s.desc keeps.names (n + 1) lines) script.ending)
-        (means_nothing s.desc ending keeps.names n line lines said))
+        sym
+        (ap
+        (λ (ts : List Numbered). kept_on s a excerpt.offence excerpt.text keeps.done ts (script_from s.desc ending keeps.names run.next (line ∷ lines)).ending)
+        (numbered_nothing s.desc keeps.names run.next line lines said)
+        ∙ ap (λ (script : Script). kept_on s a excerpt.offence excerpt.text keeps.done (numbered_from s.desc keeps.names (run.next + 1) lines) script.ending)
+        (means_nothing s.desc ending keeps.names run.next line lines said))
         ∙ keeps.kept ending (line ∷ lines)
-        ∙ sym (ap (λ (ls : List (List ℕ)). kept_of_lines s a ending first ls) (append_assoc given (line ∷ []) lines));
+        ∙ sym (ap (λ (ls : List (List ℕ)). kept_of_lines s a ending run.first ls) (append_assoc run.given (line ∷ []) lines));
   }
 
   -- a step that was performed
-  pub keeps_more : (s : Setup) (a : List ℕ) (x x' : System X V) (offence offence' : Option ℕ) (text text' : List ℕ) (first n : ℕ) (given : List (List ℕ))
-      (line : List ℕ) (step : Step)
+  pub keeps_more : (s : Setup) (a : List ℕ) (x x' : System X V) (old new : Excerpt) (run : Progress) (line : List ℕ) (step : Step)
       → step_of s.desc line ≡ Ok (Some step) → keeps_names (names_by x) (Some step) ≡ true
-      → ((h : List Event) → StandsFor driver s h x → (offence ≡ None → only_bystanders s a h ≡ true)
-      → KeepsStep driver s a h n step offence offence' text text' x')
+      → ((h : List Event) → StandsFor driver s h x → (old.offence ≡ None → only_bystanders s a h ≡ true)
+      → KeepsStep driver s a h (record { number = run.next; step = step }) old new x')
       → names_by x' ≡ names_with (names_by x) step
-      → KeepsOn driver s a x offence text first n given → KeepsOn driver s a x' offence' text' first (n + 1) (given ++ line ∷ [])
-  keeps_more s a x x' offence offence' text text' first n given line step said room makes fed keeps =
+      → KeepsOn driver s a x old run → KeepsOn driver s a x' new (with_line run line)
+  keeps_more s a x x' old new run line step said room makes fed keeps =
       let made = makes keeps.done keeps.stands keeps.neutral in
       let known : keeps_names keeps.names (Some step) ≡ true = same_kept keeps.names (names_by x) step keeps.same ∙ room in
       record {
@@ -140,65 +142,64 @@ module _ {X : Type 0} {V : X → Type 0} (driver : Plug X V → Driver) where
         same = subst (AreSame (names_after keeps.names (Some step))) (sym fed) (same_after keeps.names (names_by x) step keeps.same);
         neutral = made.neutral;
         kept = λ ending lines.
-            let next : Script = script_from s.desc ending (names_after keeps.names (Some step)) (n + 1) lines in
-            let ts : List Numbered = numbered_from s.desc (names_after keeps.names (Some step)) (n + 1) lines in
+            let next : Script = script_from s.desc ending (names_after keeps.names (Some step)) (run.next + 1) lines in
+            let ts : List Numbered = numbered_from s.desc (names_after keeps.names (Some step)) (run.next + 1) lines in
             sym (made.kept ts next.ending)
-            ∙ sym (ap (λ (us : List Numbered). kept_on s a offence text keeps.done us (script_from s.desc ending keeps.names n (line ∷ lines)).ending)
-            (numbered_step s.desc keeps.names n line lines step said known)
-            ∙ ap (λ (script : Script). kept_on s a offence text keeps.done (record { number = n; step = step } ∷ ts) script.ending)
-            (says_step s.desc ending keeps.names n line lines step said known))
+            ∙ sym
+            (ap (λ (us : List Numbered). kept_on s a old.offence old.text keeps.done us (script_from s.desc ending keeps.names run.next (line ∷ lines)).ending)
+            (numbered_step s.desc keeps.names run.next line lines step said known)
+            ∙ ap (λ (script : Script). kept_on s a old.offence old.text keeps.done (record { number = run.next; step = step } ∷ ts) script.ending)
+            (says_step s.desc ending keeps.names run.next line lines step said known))
             ∙ keeps.kept ending (line ∷ lines)
-            ∙ sym (ap (λ (ls : List (List ℕ)). kept_of_lines s a ending first ls) (append_assoc given (line ∷ []) lines));
+            ∙ sym (ap (λ (ls : List (List ℕ)). kept_of_lines s a ending run.first ls) (append_assoc run.given (line ∷ []) lines));
       }
 
   -- ---- the end
 
   -- the next line is refused
-  keeps_refused : (s : Setup) (a : List ℕ) (x : System X V) (offence : Option ℕ) (text : List ℕ) (first n : ℕ) (given : List (List ℕ)) (line : List ℕ)
-      (lines : List (List ℕ)) (why : Why) (ending : Ending)
-      → (keeps : KeepsOn driver s a x offence text first n given)
-      → script_from s.desc ending keeps.names n (line ∷ lines) ≡ record { steps = []; ending = Refused n why }
-      → kept_of_lines s a ending first (given ++ line ∷ lines) ≡ Err (Refused n why)
-  keeps_refused s a x offence text first n given line lines why ending keeps is =
+  keeps_refused : (s : Setup) (a : List ℕ) (x : System X V) (excerpt : Excerpt) (run : Progress) (line : List ℕ) (lines : List (List ℕ)) (why : Why)
+      (ending : Ending)
+      → (keeps : KeepsOn driver s a x excerpt run)
+      → script_from s.desc ending keeps.names run.next (line ∷ lines) ≡ record { steps = []; ending = Refused run.next why }
+      → kept_of_lines s a ending run.first (run.given ++ line ∷ lines) ≡ Err (Refused run.next why)
+  keeps_refused s a x excerpt run line lines why ending keeps is =
       sym (keeps.kept ending (line ∷ lines))
-      ∙ ap (λ (script : Script). kept_on s a offence text keeps.done (numbered_from s.desc keeps.names n (line ∷ lines)) script.ending) is
+      ∙ ap (λ (script : Script). kept_on s a excerpt.offence excerpt.text keeps.done (numbered_from s.desc keeps.names run.next (line ∷ lines)) script.ending)
+      is
 
-  pub keeps_wrong : (s : Setup) (a : List ℕ) (x : System X V) (offence : Option ℕ) (text : List ℕ) (first n : ℕ) (given : List (List ℕ)) (line : List ℕ)
-      (lines : List (List ℕ)) (why : Why) (ending : Ending)
-      → step_of s.desc line ≡ Err why → KeepsOn driver s a x offence text first n given
-      → kept_of_lines s a ending first (given ++ line ∷ lines) ≡ Err (Refused n why)
-  keeps_wrong s a x offence text first n given line lines why ending said keeps =
-      keeps_refused s a x offence text first n given line lines why ending keeps (is_refused s.desc ending keeps.names n line lines why said)
+  pub keeps_wrong : (s : Setup) (a : List ℕ) (x : System X V) (excerpt : Excerpt) (run : Progress) (line : List ℕ) (lines : List (List ℕ)) (why : Why)
+      (ending : Ending)
+      → step_of s.desc line ≡ Err why → KeepsOn driver s a x excerpt run
+      → kept_of_lines s a ending run.first (run.given ++ line ∷ lines) ≡ Err (Refused run.next why)
+  keeps_wrong s a x excerpt run line lines why ending said keeps =
+      keeps_refused s a x excerpt run line lines why ending keeps (is_refused s.desc ending keeps.names run.next line lines why said)
 
-  pub keeps_over : (s : Setup) (a : List ℕ) (x : System X V) (offence : Option ℕ) (text : List ℕ) (first n : ℕ) (given : List (List ℕ)) (line : List ℕ)
-      (lines : List (List ℕ)) (step : Step) (ending : Ending)
-      → step_of s.desc line ≡ Ok (Some step) → keeps_names (names_by x) (Some step) ≡ false → KeepsOn driver s a x offence text first n given
-      → kept_of_lines s a ending first (given ++ line ∷ lines) ≡ Err (Refused n Limit)
-  keeps_over s a x offence text first n given line lines step ending said over keeps =
-      keeps_refused s a x offence text first n given line lines Limit ending keeps
-      (is_over s.desc ending keeps.names n line lines step said (same_kept keeps.names (names_by x) step keeps.same ∙ over))
+  pub keeps_over : (s : Setup) (a : List ℕ) (x : System X V) (excerpt : Excerpt) (run : Progress) (line : List ℕ) (lines : List (List ℕ)) (step : Step)
+      (ending : Ending)
+      → step_of s.desc line ≡ Ok (Some step) → keeps_names (names_by x) (Some step) ≡ false → KeepsOn driver s a x excerpt run
+      → kept_of_lines s a ending run.first (run.given ++ line ∷ lines) ≡ Err (Refused run.next Limit)
+  keeps_over s a x excerpt run line lines step ending said over keeps =
+      keeps_refused s a x excerpt run line lines Limit ending keeps
+      (is_over s.desc ending keeps.names run.next line lines step said (same_kept keeps.names (names_by x) step keeps.same ∙ over))
 
   -- a line that is too long
-  pub keeps_long : (s : Setup) (a : List ℕ) (x : System X V) (offence : Option ℕ) (text : List ℕ) (first n : ℕ) (given : List (List ℕ)) (line : List ℕ)
-      (lines : List (List ℕ)) (ending : Ending)
-      → fits_line line ≡ false → KeepsOn driver s a x offence text first n given → kept_of_lines s a ending first (given ++ line ∷ lines) ≡ Err (Refused n Long)
-  keeps_long s a x offence text first n given line lines ending long keeps =
-      keeps_wrong s a x offence text first n given line lines Long ending (rw long refl) keeps
+  pub keeps_long : (s : Setup) (a : List ℕ) (x : System X V) (excerpt : Excerpt) (run : Progress) (line : List ℕ) (lines : List (List ℕ)) (ending : Ending)
+      → fits_line line ≡ false → KeepsOn driver s a x excerpt run → kept_of_lines s a ending run.first (run.given ++ line ∷ lines) ≡ Err (Refused run.next Long)
+  keeps_long s a x excerpt run line lines ending long keeps =
+      keeps_wrong s a x excerpt run line lines Long ending (rw long refl) keeps
 
   -- no line is left
-  pub keeps_done : KeptGoesOn → (s : Setup) (a : List ℕ) (x : System X V) (offence : Option ℕ) (text : List ℕ) (first n : ℕ) (given : List (List ℕ))
-      → KeepsOn driver s a x offence text first n given
-      → kept_of_lines s a Finished first given ≡ kept_at_end offence text
-  keeps_done law s a x offence text first n given keeps =
-      sym (keeps.kept Finished [] ∙ ap (λ (ls : List (List ℕ)). kept_of_lines s a Finished first ls) (append-nil given)) ∙ by offence
+  pub keeps_done : KeptGoesOn → (s : Setup) (a : List ℕ) (x : System X V) (excerpt : Excerpt) (run : Progress) → KeepsOn driver s a x excerpt run
+      → kept_of_lines s a Finished run.first run.given ≡ kept_at_end excerpt.offence excerpt.text
+  keeps_done law s a x excerpt run keeps =
+      sym (keeps.kept Finished [] ∙ ap (λ (ls : List (List ℕ)). kept_of_lines s a Finished run.first ls) (append-nil run.given)) ∙ by excerpt.offence
     where
-      by : (o : Option ℕ) → kept_on s a o text keeps.done [] Finished ≡ kept_at_end o text
-      by None = (law s a Finished).4 text keeps.done
+      by : (o : Option ℕ) → kept_on s a o excerpt.text keeps.done [] Finished ≡ kept_at_end o excerpt.text
+      by None = (law s a Finished).4 excerpt.text keeps.done
       by (Some line) = refl
 
   -- the input goes on
-  pub keeps_cut : (s : Setup) (a : List ℕ) (x : System X V) (offence : Option ℕ) (text : List ℕ) (first n : ℕ) (given : List (List ℕ))
-      → KeepsOn driver s a x offence text first n given
-      → kept_of_lines s a TooLong first given ≡ Err TooLong
-  keeps_cut s a x offence text first n given keeps =
-      sym (keeps.kept TooLong [] ∙ ap (λ (ls : List (List ℕ)). kept_of_lines s a TooLong first ls) (append-nil given))
+  pub keeps_cut : (s : Setup) (a : List ℕ) (x : System X V) (excerpt : Excerpt) (run : Progress) → KeepsOn driver s a x excerpt run
+      → kept_of_lines s a TooLong run.first run.given ≡ Err TooLong
+  keeps_cut s a x excerpt run keeps =
+      sym (keeps.kept TooLong [] ∙ ap (λ (ls : List (List ℕ)). kept_of_lines s a TooLong run.first ls) (append-nil run.given))

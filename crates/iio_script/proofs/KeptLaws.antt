@@ -16,8 +16,9 @@ use Rattle.iio_system.specs.declared.system.System.{System}
 use Rattle.iio_worlds.specs.KeptOn.{KeptGoesOn}
 use Rattle.iio_worlds.specs.Solo.{kept_of, kept_of_head}
 use Rattle.iio_script.specs.declared.opening.Opening.TheVariants as read
-use Rattle.iio_script.specs.Keeps.{KeepsOn, kept_at_end, kept_of_lines}
+use Rattle.iio_script.specs.Keeps.{Excerpt, KeepsOn, excerpt_of, kept_at_end, kept_of_lines}
 use Rattle.iio_script.specs.LineReader.{Follows, Hand, HasLine, IsCut, IsDone, IsHand, IsLong, TakesBlocks, line_of}
+use Rattle.iio_script.specs.Plays.{progress_of, with_line}
 use Rattle.iio_script.specs.Told.{EndsAlone, EndsAt, RefusesAt}
 use Rattle.iio_script.proofs.FollowLaws.{cut_line, follows_begin, long_line, next_line, no_line, takes_at_most}
 use Rattle.iio_script.proofs.KeepLaws.{keeps_cut, keeps_done, keeps_long}
@@ -26,40 +27,38 @@ use Rattle.iio_script.proofs.StepLaws.{same_rest}
 
 module _ {X : Type 0} {V : X → Type 0} (driver : Plug X V → Driver) where
   -- the lines `given` were played, and this was kept of them; the reader has gone on over them
-  pub record KeptSoFar (s : Setup) (a : List ℕ) (x : System X V) (offence : Option ℕ) (text : List ℕ) (first n : ℕ) (h h' : Hand)
-      (left left' : Option (List ℕ)) : Type 0 where
+  pub record KeptSoFar (s : Setup) (a : List ℕ) (x : System X V) (excerpt : Excerpt) (first n : ℕ) (h h' : Hand) (left left' : Option (List ℕ)) : Type 0 where
     pub given : List (List ℕ)
-    pub keeps : KeepsOn driver s a x offence text first n given
+    pub keeps : KeepsOn driver s a x excerpt (progress_of first n given)
     pub follows : (input : List ℕ) (front : List (List ℕ)) → Follows input front h left → Follows input (front ++ given) h' left'
 
   pub so_far_first : (s : Setup) (a : List ℕ) (x : System X V) (text : List ℕ) (first : ℕ) (h : Hand) (left : Option (List ℕ)) → text ≡ []
-      → KeepsOn driver s a x None [] first first []
-      → KeptSoFar s a x None text first first h h left left
+      → KeepsOn driver s a x (excerpt_of None []) (progress_of first first [])
+      → KeptSoFar s a x (excerpt_of None text) first first h h left left
   so_far_first s a x text first h left empty keeps = record {
     given = [];
-    keeps = subst (λ (t : List ℕ). KeepsOn driver s a x None t first first []) (sym empty) keeps;
+    keeps = subst (λ (t : List ℕ). KeepsOn driver s a x (excerpt_of None t) (progress_of first first [])) (sym empty) keeps;
     follows = λ input front follows. subst (λ (f : List (List ℕ)). Follows input f h left) (sym (append-nil front)) follows;
   }
 
   -- the next line was looked for
-  pub so_far_found : (s : Setup) (a : List ℕ) (x : System X V) (offence : Option ℕ) (text : List ℕ) (first n : ℕ) (h h1 h2 : Hand)
-      (left left1 left2 : Option (List ℕ))
+  pub so_far_found : (s : Setup) (a : List ℕ) (x : System X V) (excerpt : Excerpt) (first n : ℕ) (h h1 h2 : Hand) (left left1 left2 : Option (List ℕ))
       → ((input : List ℕ) (front : List (List ℕ)) → Follows input front h1 left1 → Follows input front h2 left2)
-      → KeptSoFar s a x offence text first n h h1 left left1 → KeptSoFar s a x offence text first n h h2 left left2
-  so_far_found s a x offence text first n h h1 h2 left left1 left2 finds so = record {
+      → KeptSoFar s a x excerpt first n h h1 left left1 → KeptSoFar s a x excerpt first n h h2 left left2
+  so_far_found s a x excerpt first n h h1 h2 left left1 left2 finds so = record {
     given = so.given;
     keeps = so.keeps;
     follows = λ input front follows. finds input (front ++ so.given) (so.follows input front follows);
   }
 
   -- .. and was played
-  pub so_far_played : (s : Setup) (a : List ℕ) (x x' : System X V) (offence offence' : Option ℕ) (text text' line : List ℕ) (first n : ℕ) (h h1 h2 : Hand)
+  pub so_far_played : (s : Setup) (a : List ℕ) (x x' : System X V) (excerpt excerpt' : Excerpt) (line : List ℕ) (first n : ℕ) (h h1 h2 : Hand)
       (left left' : Option (List ℕ))
       → ((input : List ℕ) (front : List (List ℕ)) (l : Option (List ℕ)) → Follows input front h1 l → Follows input (front ++ line_of h1 ∷ []) h2 l)
       → line ≡ line_of h1
-      → (so : KeptSoFar s a x offence text first n h h1 left left') → KeepsOn driver s a x' offence' text' first (n + 1) (so.given ++ line ∷ [])
-      → KeptSoFar s a x' offence' text' first (n + 1) h h2 left left'
-  so_far_played s a x x' offence offence' text text' line first n h h1 h2 left left' passes same so keeps = record {
+      → (so : KeptSoFar s a x excerpt first n h h1 left left') → KeepsOn driver s a x' excerpt' (with_line (progress_of first n so.given) line)
+      → KeptSoFar s a x' excerpt' first (n + 1) h h2 left left'
+  so_far_played s a x x' excerpt excerpt' line first n h h1 h2 left left' passes same so keeps = record {
     given = so.given ++ line ∷ [];
     keeps = keeps;
     follows = λ input front follows.
@@ -80,41 +79,39 @@ module _ {X : Type 0} {V : X → Type 0} (driver : Plug X V → Driver) where
       ap (λ (o : Bool). kept_of_lines s a (last_ending o) first more) long
       ∙ ap (λ (ls : List (List ℕ)). kept_of_lines s a (last_ending over) first ls) (same_rest front more (given ++ rest) (sym looked ∙ lines)) ∙ is
 
-  pub takes_so : (s : Setup) (a : List ℕ) (x : System X V) (offence : Option ℕ) (text : List ℕ) (first n : ℕ) (h h' : Hand) (left left' : Option (List ℕ))
+  pub takes_so : (s : Setup) (a : List ℕ) (x : System X V) (excerpt : Excerpt) (first n : ℕ) (h h' : Hand) (left left' : Option (List ℕ))
       (front : List (List ℕ)) (input : List ℕ)
-      → IsHand h' → Follows input front h left → KeptSoFar s a x offence text first n h h' left left' → TakesAtMost input (input_limit + 1) left'
-  takes_so s a x offence text first n h h' left left' front input is follows so =
+      → IsHand h' → Follows input front h left → KeptSoFar s a x excerpt first n h h' left left' → TakesAtMost input (input_limit + 1) left'
+  takes_so s a x excerpt first n h h' left left' front input is follows so =
       takes_at_most input (front ++ so.given) h' left' is (so.follows input front follows)
 
-  pub kept_done : KeptGoesOn
-      → (s : Setup) (a : List ℕ) (x : System X V) (offence : Option ℕ) (text : List ℕ) (first n : ℕ) (h h' : Hand) (left left' : Option (List ℕ))
+  pub kept_done : KeptGoesOn → (s : Setup) (a : List ℕ) (x : System X V) (excerpt : Excerpt) (first n : ℕ) (h h' : Hand) (left left' : Option (List ℕ))
       (front more : List (List ℕ)) (input : List ℕ)
-      → IsHand h' → IsDone h' → Follows input front h left → scanned_lines input ≡ front ++ more → KeptSoFar s a x offence text first n h h' left left'
-      → Kept s a first input more (kept_at_end offence text)
-  kept_done law s a x offence text first n h h' left left' front more input is done follows looked so =
+      → IsHand h' → IsDone h' → Follows input front h left → scanned_lines input ≡ front ++ more → KeptSoFar s a x excerpt first n h h' left left'
+      → Kept s a first input more (kept_at_end excerpt.offence excerpt.text)
+  kept_done law s a x excerpt first n h h' left left' front more input is done follows looked so =
       let none = no_line input (front ++ so.given) h' left' is done (so.follows input front follows) in
-      kept_by s a first front so.given more [] input false (kept_at_end offence text) looked
+      kept_by s a first front so.given more [] input false (kept_at_end excerpt.offence excerpt.text) looked
       (none.0 ∙ ap (λ (ls : List (List ℕ)). front ++ ls) (sym (append-nil so.given))) none.1
-      (ap (λ (ls : List (List ℕ)). kept_of_lines s a Finished first ls) (append-nil so.given)
-      ∙ keeps_done driver law s a x offence text first n so.given so.keeps)
+      (ap (λ (ls : List (List ℕ)). kept_of_lines s a Finished first ls) (append-nil so.given) ∙ keeps_done driver law s a x _ _ so.keeps)
 
-  pub kept_cut : (s : Setup) (a : List ℕ) (x : System X V) (offence : Option ℕ) (text : List ℕ) (first n : ℕ) (h h' : Hand) (left left' : Option (List ℕ))
+  pub kept_cut : (s : Setup) (a : List ℕ) (x : System X V) (excerpt : Excerpt) (first n : ℕ) (h h' : Hand) (left left' : Option (List ℕ))
       (front more : List (List ℕ)) (input : List ℕ)
-      → IsHand h' → IsCut h' → Follows input front h left → scanned_lines input ≡ front ++ more → KeptSoFar s a x offence text first n h h' left left'
+      → IsHand h' → IsCut h' → Follows input front h left → scanned_lines input ≡ front ++ more → KeptSoFar s a x excerpt first n h h' left left'
       → Kept s a first input more (Err TooLong)
-  kept_cut s a x offence text first n h h' left left' front more input is cut follows looked so =
+  kept_cut s a x excerpt first n h h' left left' front more input is cut follows looked so =
       let none = cut_line input (front ++ so.given) h' left' is cut (so.follows input front follows) in
       kept_by s a first front so.given more [] input true (Err TooLong) looked (none.0 ∙ ap (λ (ls : List (List ℕ)). front ++ ls) (sym (append-nil so.given)))
       none.1
-      (ap (λ (ls : List (List ℕ)). kept_of_lines s a TooLong first ls) (append-nil so.given) ∙ keeps_cut driver s a x offence text first n so.given so.keeps)
+      (ap (λ (ls : List (List ℕ)). kept_of_lines s a TooLong first ls) (append-nil so.given) ∙ keeps_cut driver s a x _ _ so.keeps)
 
-  pub kept_refused : (s : Setup) (a : List ℕ) (x : System X V) (offence : Option ℕ) (text line : List ℕ) (first n : ℕ) (h h' : Hand)
-      (left left' : Option (List ℕ)) (front more : List (List ℕ)) (input : List ℕ) (why : Why)
+  pub kept_refused : (s : Setup) (a : List ℕ) (x : System X V) (excerpt : Excerpt) (line : List ℕ) (first n : ℕ) (h h' : Hand) (left left' : Option (List ℕ))
+      (front more : List (List ℕ)) (input : List ℕ) (why : Why)
       → IsHand h' → HasLine h' → Follows input front h left → scanned_lines input ≡ front ++ more → line ≡ line_of h'
-      → (so : KeptSoFar s a x offence text first n h h' left left')
+      → (so : KeptSoFar s a x excerpt first n h h' left left')
       → ((ending : Ending) (lines : List (List ℕ)) → kept_of_lines s a ending first (so.given ++ line ∷ lines) ≡ Err (Refused n why))
       → Kept s a first input more (Err (Refused n why))
-  kept_refused s a x offence text line first n h h' left left' front more input why is has follows looked same so refused =
+  kept_refused s a x excerpt line first n h h' left left' front more input why is has follows looked same so refused =
       let next = next_line input (front ++ so.given) h' left' is has (so.follows input front follows) in
       let begins : scanned_lines input ≡ front ++ (so.given ++ (line ∷ next.more)) =
       next.parts ∙ append_assoc (front ++ so.given) (line_of h' ∷ []) next.more ∙ ap (λ l. (front ++ so.given) ++ l ∷ next.more) (sym same)
@@ -122,15 +119,15 @@ module _ {X : Type 0} {V : X → Type 0} (driver : Plug X V → Driver) where
       kept_by s a first front so.given more (line ∷ next.more) input (is_overlong input) (Err (Refused n why)) looked begins refl
       (refused (last_ending (is_overlong input)) next.more)
 
-  pub kept_long : (s : Setup) (a : List ℕ) (x : System X V) (offence : Option ℕ) (text : List ℕ) (first n : ℕ) (h h' : Hand) (left left' : Option (List ℕ))
+  pub kept_long : (s : Setup) (a : List ℕ) (x : System X V) (excerpt : Excerpt) (first n : ℕ) (h h' : Hand) (left left' : Option (List ℕ))
       (front more : List (List ℕ)) (input : List ℕ)
-      → IsHand h' → IsLong h' → Follows input front h left → scanned_lines input ≡ front ++ more → KeptSoFar s a x offence text first n h h' left left'
+      → IsHand h' → IsLong h' → Follows input front h left → scanned_lines input ≡ front ++ more → KeptSoFar s a x excerpt first n h h' left left'
       → Kept s a first input more (Err (Refused n Long))
-  kept_long s a x offence text first n h h' left left' front more input is long follows looked so =
+  kept_long s a x excerpt first n h h' left left' front more input is long follows looked so =
       let next = long_line input (front ++ so.given) h' left' is long (so.follows input front follows) in
       kept_by s a first front so.given more (next.line ∷ next.more) input (is_overlong input) (Err (Refused n Long)) looked
       (next.parts ∙ append_assoc front so.given (next.line ∷ next.more)) refl
-      (keeps_long driver s a x offence text first n so.given next.line next.more (last_ending (is_overlong input)) next.long so.keeps)
+      (keeps_long driver s a x _ _ next.line next.more (last_ending (is_overlong input)) next.long so.keeps)
 
 -- ---- by the head of the input
 

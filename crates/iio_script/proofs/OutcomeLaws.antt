@@ -16,7 +16,7 @@ use Rattle.iio_script.specs.declared.status.Status.{Status}
 use Rattle.iio_script.specs.declared.status.Status.TheVariants.{Done, Memory, ReadFault, Refused, TooLong, Usage, WriteFault}
 use Rattle.iio_script.specs.Ends.{Finishes, HasStatus, Writes, WritesFront, WritesWhole, status_of}
 use Rattle.iio_script.specs.LineReader.{Follows, Hand, IsHand, TakesBlocks, TakesNear}
-use Rattle.iio_script.specs.Plays.{AnswersScript, EndsScript, FinishesAt, IsFrontOf, IsRefusedOr, Prints, TakesFor, WritesText}
+use Rattle.iio_script.specs.Plays.{AnswersScript, EndsScript, FinishesAt, IsFrontOf, IsRefusedOr, Prints, TakesFor, WritesText, start_of}
 use Rattle.iio_script.specs.Taken.{AnswersFirst, EndsRun, Runs, WritesFirst, WritesLines, so_far, whole_lines_of}
 use Rattle.iio_script.specs.Told.{EndsAlone, EndsAt, FailsWithin, RefusesAt, TakesUnended}
 use Rattle.iio_script.proofs.AnswerLaws.{unended_none}
@@ -58,7 +58,7 @@ answers_script : (drivers : List Driver) (count : ℕ) (desc : Description) (fir
     (left left' : Option (List ℕ)) → count ≡ length drivers
     → ((overlong : Bool) (lines : List (List ℕ)) → head_from overlong (new_reader count) 1 (front ++ lines) ≡ Described desc first lines)
     → TakesUnended count input left
-    → AnswersScript (record { desc = desc; drivers = drivers }) first front input text left left' → AnswersFirst drivers input text left'
+    → AnswersScript (start_of (record { desc = desc; drivers = drivers }) first front) input text left left' → AnswersFirst drivers input text left'
 answers_script drivers count desc first front input text left left' many heads u (inl same) = answers_unended drivers count input text left left' many u same
 answers_script drivers count desc first front input text left left' many heads u (inr a) = record {
   count = a.count;
@@ -86,7 +86,7 @@ run_of_script : (drivers : List Driver) (count : ℕ) (desc : Description) (firs
     → count ≡ length drivers
     → ((overlong : Bool) (lines : List (List ℕ)) → head_from overlong (new_reader count) 1 (front ++ lines) ≡ Described desc first lines)
     → scanned_lines input ≡ front ++ more
-    → EndsScript (record { desc = desc; drivers = drivers }) first front
+    → EndsScript (start_of (record { desc = desc; drivers = drivers }) first front)
     (outcome_of_script (record { desc = desc; drivers = drivers }) (script_from desc (last_ending (is_overlong input)) [] first more)) input status text left
     → EndsRun drivers input status text left
 run_of_script drivers count desc first front more input status text left many heads looked ends = by_status status ends
@@ -98,7 +98,7 @@ run_of_script drivers count desc first front more input status text left many he
         ≡ outcome_of drivers input
     same = sym (outcome_by drivers count input (Described desc first more) many head)
 
-    by_status : (status : Status) → EndsScript (record { desc = desc; drivers = drivers }) first front
+    by_status : (status : Status) → EndsScript (start_of (record { desc = desc; drivers = drivers }) first front)
         (outcome_of_script (record { desc = desc; drivers = drivers }) (script_from desc (last_ending (is_overlong input)) [] first more)) input status text
         left → EndsRun drivers input status text left
     by_status Done f = finishes_as _ _ Done input text left same f
@@ -122,10 +122,10 @@ pub runs_described : (drivers : List Driver) (count : ℕ) (desc : Description) 
     → count ≡ length drivers → IsHand h → (ends : EndsAt count desc first input h left) → TakesUnended count input left
     → ((front more : List (List ℕ)) → Follows input front h left → first ≡ length front + 1 → scanned_lines input ≡ front ++ more → (text : List ℕ)
     × WritesText before after text
-    × EndsScript (record { desc = desc; drivers = drivers }) first front
+    × EndsScript (start_of (record { desc = desc; drivers = drivers }) first front)
     (outcome_of_script (record { desc = desc; drivers = drivers }) (script_from desc (last_ending (is_overlong input)) [] first more)) input status text left'
     × TakesAtMost input (input_limit + 1) left'
-    × AnswersScript (record { desc = desc; drivers = drivers }) first front input text left left') → Runs drivers input status left' before after
+    × AnswersScript (start_of (record { desc = desc; drivers = drivers }) first front) input text left left') → Runs drivers input status left' before after
 runs_described drivers count desc first input h left left' before after status many is ends unended played =
     let begins = follows_begin input ends.front h left is ends.follows in
     let run = played ends.front begins.more ends.follows ends.next begins.parts in

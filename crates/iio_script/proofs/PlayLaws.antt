@@ -20,7 +20,7 @@ use Rattle.iio_system.specs.declared.system.System.{System}
 use Rattle.iio_system.specs.Standing.{StandsFor, has_room, names_by, names_with}
 use Rattle.iio_script.specs.declared.status.Status.{Status}
 use Rattle.iio_script.specs.Ends.{Finishes, status_of}
-use Rattle.iio_script.specs.Plays.{AreSame, IsFrontOf, Performs, Plays, step_kept, text_after}
+use Rattle.iio_script.specs.Plays.{AreSame, IsFrontOf, Performs, Plays, Progress, progress_of, step_kept, text_after, with_line}
 
 -- ---- names
 
@@ -144,7 +144,7 @@ stopped_step names (Ok read) why h = stopped_by names read why (keeps_names name
 -- ---- a run that has reached a line
 
 module _ {X : Type 0} {V : X → Type 0} (driver : Plug X V → Driver) where
-  pub plays_first : (s : Setup) (x : System X V) (first : ℕ) → names_by x ≡ [] → StandsFor driver s [] x → Plays driver s x [] first first []
+  pub plays_first : (s : Setup) (x : System X V) (first : ℕ) → names_by x ≡ [] → StandsFor driver s [] x → Plays driver s x [] (progress_of first first [])
   plays_first s x first none stands = record {
     done = [];
     names = [];
@@ -156,33 +156,33 @@ module _ {X : Type 0} {V : X → Type 0} (driver : Plug X V → Driver) where
   }
 
   -- a line that means nothing
-  pub plays_past : (s : Setup) (x : System X V) (text : List ℕ) (first n : ℕ) (given : List (List ℕ)) (line : List ℕ) → step_of s.desc line ≡ Ok None
-      → Plays driver s x text first n given → Plays driver s x text first (n + 1) (given ++ line ∷ [])
-  plays_past s x text first n given line said plays = record {
+  pub plays_past : (s : Setup) (x : System X V) (text : List ℕ) (run : Progress) (line : List ℕ) → step_of s.desc line ≡ Ok None → Plays driver s x text run
+      → Plays driver s x text (with_line run line)
+  plays_past s x text run line said plays = record {
     done = plays.done;
     names = plays.names;
     stands = plays.stands;
     same = plays.same;
     printed = λ ending lines.
-        sym (ap (λ (script : Script). text ++ text_after s plays.done script) (means_nothing s.desc ending plays.names n line lines said))
+        sym (ap (λ (script : Script). text ++ text_after s plays.done script) (means_nothing s.desc ending plays.names run.next line lines said))
         ∙ plays.printed ending (line ∷ lines)
-        ∙ sym (ap (λ ls. script_text s (script_from s.desc ending [] first ls)) (append_assoc given (line ∷ []) lines));
+        ∙ sym (ap (λ ls. script_text s (script_from s.desc ending [] run.first ls)) (append_assoc run.given (line ∷ []) lines));
     ends = λ ending lines.
-        sym (ap (λ (script : Script). script.ending) (means_nothing s.desc ending plays.names n line lines said)) ∙ plays.ends ending (line ∷ lines)
-        ∙ sym (ap (λ ls. (script_from s.desc ending [] first ls).ending) (append_assoc given (line ∷ []) lines));
+        sym (ap (λ (script : Script). script.ending) (means_nothing s.desc ending plays.names run.next line lines said)) ∙ plays.ends ending (line ∷ lines)
+        ∙ sym (ap (λ ls. (script_from s.desc ending [] run.first ls).ending) (append_assoc run.given (line ∷ []) lines));
     history = λ ending lines.
-        sym (ap (λ (script : Script). with_steps s plays.done script.steps) (means_nothing s.desc ending plays.names n line lines said))
+        sym (ap (λ (script : Script). with_steps s plays.done script.steps) (means_nothing s.desc ending plays.names run.next line lines said))
         ∙ plays.history ending (line ∷ lines)
-        ∙ sym (ap (λ ls. with_steps s [] (script_from s.desc ending [] first ls).steps) (append_assoc given (line ∷ []) lines));
+        ∙ sym (ap (λ ls. with_steps s [] (script_from s.desc ending [] run.first ls).steps) (append_assoc run.given (line ∷ []) lines));
   }
 
   -- a step that was performed
-  pub plays_on : (s : Setup) (x x' : System X V) (text after : List ℕ) (first n : ℕ) (given : List (List ℕ)) (line : List ℕ) (step : Step)
+  pub plays_on : (s : Setup) (x x' : System X V) (text after : List ℕ) (run : Progress) (line : List ℕ) (step : Step)
       → step_of s.desc line ≡ Ok (Some step) → keeps_names (names_by x) (Some step) ≡ true
       → ((h : List Event) → StandsFor driver s h x → (after ≡ text ++ lines_of_step s h step) × StandsFor driver s (with_step s h step) x')
       → names_by x' ≡ names_with (names_by x) step
-      → Plays driver s x text first n given → Plays driver s x' after first (n + 1) (given ++ line ∷ [])
-  plays_on s x x' text after first n given line step said kept makes fed plays =
+      → Plays driver s x text run → Plays driver s x' after (with_line run line)
+  plays_on s x x' text after run line step said kept makes fed plays =
       let made = makes plays.done plays.stands in
       let lines_made : List ℕ = lines_of_step s plays.done step in
       let keeps : keeps_names plays.names (Some step) ≡ true = same_kept plays.names (names_by x) step plays.same ∙ kept in
@@ -192,20 +192,21 @@ module _ {X : Type 0} {V : X → Type 0} (driver : Plug X V → Driver) where
         stands = made.1;
         same = subst (AreSame (names_after plays.names (Some step))) (sym fed) (same_after plays.names (names_by x) step plays.same);
         printed = λ ending lines.
-            let next : Script = script_from s.desc ending (names_after plays.names (Some step)) (n + 1) lines in
+            let next : Script = script_from s.desc ending (names_after plays.names (Some step)) (run.next + 1) lines in
             ap (λ (o : List ℕ). o ++ text_after s (with_step s plays.done step) next) made.0
             ∙ append_assoc text lines_made (text_after s (with_step s plays.done step) next)
             ∙ ap (λ (ls : List ℕ). text ++ ls) (sym (append_assoc lines_made (transcript s (with_step s plays.done step) next.steps) (ending_text next.ending)))
-            ∙ sym (ap (λ (script : Script). text ++ text_after s plays.done script) (says_step s.desc ending plays.names n line lines step said keeps))
+            ∙ sym (ap (λ (script : Script). text ++ text_after s plays.done script) (says_step s.desc ending plays.names run.next line lines step said keeps))
             ∙ plays.printed ending (line ∷ lines)
-            ∙ sym (ap (λ ls. script_text s (script_from s.desc ending [] first ls)) (append_assoc given (line ∷ []) lines));
+            ∙ sym (ap (λ ls. script_text s (script_from s.desc ending [] run.first ls)) (append_assoc run.given (line ∷ []) lines));
         ends = λ ending lines.
-            sym (ap (λ (script : Script). script.ending) (says_step s.desc ending plays.names n line lines step said keeps)) ∙ plays.ends ending (line ∷ lines)
-            ∙ sym (ap (λ ls. (script_from s.desc ending [] first ls).ending) (append_assoc given (line ∷ []) lines));
+            sym (ap (λ (script : Script). script.ending) (says_step s.desc ending plays.names run.next line lines step said keeps))
+            ∙ plays.ends ending (line ∷ lines)
+            ∙ sym (ap (λ ls. (script_from s.desc ending [] run.first ls).ending) (append_assoc run.given (line ∷ []) lines));
         history = λ ending lines.
-            sym (ap (λ (script : Script). with_steps s plays.done script.steps) (says_step s.desc ending plays.names n line lines step said keeps))
+            sym (ap (λ (script : Script). with_steps s plays.done script.steps) (says_step s.desc ending plays.names run.next line lines step said keeps))
             ∙ plays.history ending (line ∷ lines)
-            ∙ sym (ap (λ ls. with_steps s [] (script_from s.desc ending [] first ls).steps) (append_assoc given (line ∷ []) lines));
+            ∙ sym (ap (λ ls. with_steps s [] (script_from s.desc ending [] run.first ls).steps) (append_assoc run.given (line ∷ []) lines));
       }
 
   pub performs_line : {A : Type 0} (r : Result (Option Why) A) (reading : Result Step Why) (other : List ℕ → Result Step Why) (x x' : System X V)
@@ -217,98 +218,98 @@ module _ {X : Type 0} {V : X → Type 0} (driver : Plug X V → Driver) where
       subst (λ (r : Result Step Why). Performs driver r x x' before after why) (sym (same line of)) performs
 
   -- .. that was read
-  pub plays_step : (s : Setup) (x x' : System X V) (sent before after : List ℕ) (first n : ℕ) (given : List (List ℕ)) (line : List ℕ)
-      (reading : Result Step Why) → step_of s.desc line ≡ (reading >>= λ step. Ok (Some step)) → Performs driver reading x x' before after None
-      → Plays driver s x (sent ++ before) first n given → Plays driver s x' (sent ++ after) first (n + 1) (given ++ line ∷ [])
-  plays_step s x x' sent before after first n given line reading said performs plays =
+  pub plays_step : (s : Setup) (x x' : System X V) (sent before after : List ℕ) (run : Progress) (line : List ℕ) (reading : Result Step Why)
+      → step_of s.desc line ≡ (reading >>= λ step. Ok (Some step)) → Performs driver reading x x' before after None
+      → Plays driver s x (sent ++ before) run → Plays driver s x' (sent ++ after) (with_line run line)
+  plays_step s x x' sent before after run line reading said performs plays =
       let step = performs.0 in
       let performed = performs.1.1 in
       let kept = kept_step (names_by x) reading step performs.1.0 in
-      plays_on s x x' (sent ++ before) (sent ++ after) first n given line step
-      (said ∙ ap (λ (r : Result Step Why). r >>= λ step. Ok (Some step)) kept.0) kept.1
+      plays_on s x x' (sent ++ before) (sent ++ after) run line step (said ∙ ap (λ (r : Result Step Why). r >>= λ step. Ok (Some step)) kept.0) kept.1
       (λ h stands. let made = performed.lines s h stands in (ap (λ t. sent ++ t) made.0 ∙ sym (append_assoc sent before _), made.1)) performed.names plays
 
   -- ---- the end
 
-  ends_with : (s : Setup) (x : System X V) (text after : List ℕ) (first n : ℕ) (given lines : List (List ℕ)) (ending last : Ending) (status : Status)
-      → (plays : Plays driver s x text first n given) → script_from s.desc ending plays.names n lines ≡ record { steps = []; ending = last }
-      → Finishes (only_ending last) status text after → Finishes (outcome_of_script s (script_from s.desc ending [] first (given ++ lines))) status [] after
-  ends_with s x text after first n given lines ending last status plays left f = record {
+  ends_with : (s : Setup) (x : System X V) (text after : List ℕ) (run : Progress) (lines : List (List ℕ)) (ending last : Ending) (status : Status)
+      → (plays : Plays driver s x text run) → script_from s.desc ending plays.names run.next lines ≡ record { steps = []; ending = last }
+      → Finishes (only_ending last) status text after
+      → Finishes (outcome_of_script s (script_from s.desc ending [] run.first (run.given ++ lines))) status [] after
+  ends_with s x text after run lines ending last status plays left f = record {
     end = f.end;
     ends = f.ends ∙ ap status_of (sym (ap (λ (script : Script). script.ending) left) ∙ plays.ends ending lines);
     printed = f.printed ∙ sym (ap (λ (script : Script). text ++ text_after s plays.done script) left) ∙ plays.printed ending lines;
   }
 
-  pub plays_last : (s : Setup) (x : System X V) (text after : List ℕ) (first n : ℕ) (given : List (List ℕ)) (ending : Ending) (status : Status)
-      → Plays driver s x text first n given → Finishes (only_ending ending) status text after
-      → Finishes (outcome_of_script s (script_from s.desc ending [] first given)) status [] after
-  plays_last s x text after first n given ending status plays f =
-      subst (λ (ls : List (List ℕ)). Finishes (outcome_of_script s (script_from s.desc ending [] first ls)) status [] after) (append-nil given)
-      (ends_with s x text after first n given [] ending ending status plays refl f)
+  pub plays_last : (s : Setup) (x : System X V) (text after : List ℕ) (run : Progress) (ending : Ending) (status : Status) → Plays driver s x text run
+      → Finishes (only_ending ending) status text after
+      → Finishes (outcome_of_script s (script_from s.desc ending [] run.first run.given)) status [] after
+  plays_last s x text after run ending status plays f =
+      subst (λ (ls : List (List ℕ)). Finishes (outcome_of_script s (script_from s.desc ending [] run.first ls)) status [] after) (append-nil run.given)
+      (ends_with s x text after run [] ending ending status plays refl f)
 
-  pub plays_refused : (s : Setup) (x : System X V) (text after : List ℕ) (first n : ℕ) (given : List (List ℕ)) (line : List ℕ) (lines : List (List ℕ))
-      (why : Why) (ending : Ending) (status : Status)
-      → step_of s.desc line ≡ Err why → Plays driver s x text first n given → Finishes (only_ending (Refused n why)) status text after
-      → Finishes (outcome_of_script s (script_from s.desc ending [] first (given ++ line ∷ lines))) status [] after
-  plays_refused s x text after first n given line lines why ending status said plays f =
-      ends_with s x text after first n given (line ∷ lines) ending (Refused n why) status plays (is_refused s.desc ending plays.names n line lines why said) f
+  pub plays_refused : (s : Setup) (x : System X V) (text after : List ℕ) (run : Progress) (line : List ℕ) (lines : List (List ℕ)) (why : Why)
+      (ending : Ending) (status : Status)
+      → step_of s.desc line ≡ Err why → Plays driver s x text run → Finishes (only_ending (Refused run.next why)) status text after
+      → Finishes (outcome_of_script s (script_from s.desc ending [] run.first (run.given ++ line ∷ lines))) status [] after
+  plays_refused s x text after run line lines why ending status said plays f =
+      ends_with s x text after run (line ∷ lines) ending (Refused run.next why) status plays
+      (is_refused s.desc ending plays.names run.next line lines why said) f
 
-  pub plays_over : (s : Setup) (x : System X V) (text after : List ℕ) (first n : ℕ) (given : List (List ℕ)) (line : List ℕ) (lines : List (List ℕ))
-      (step : Step) (ending : Ending) (status : Status)
-      → step_of s.desc line ≡ Ok (Some step) → keeps_names (names_by x) (Some step) ≡ false → Plays driver s x text first n given
-      → Finishes (only_ending (Refused n Limit)) status text after
-      → Finishes (outcome_of_script s (script_from s.desc ending [] first (given ++ line ∷ lines))) status [] after
-  plays_over s x text after first n given line lines step ending status said over plays f =
-      ends_with s x text after first n given (line ∷ lines) ending (Refused n Limit) status plays
-      (is_over s.desc ending plays.names n line lines step said (same_kept plays.names (names_by x) step plays.same ∙ over)) f
+  pub plays_over : (s : Setup) (x : System X V) (text after : List ℕ) (run : Progress) (line : List ℕ) (lines : List (List ℕ)) (step : Step)
+      (ending : Ending) (status : Status)
+      → step_of s.desc line ≡ Ok (Some step) → keeps_names (names_by x) (Some step) ≡ false → Plays driver s x text run
+      → Finishes (only_ending (Refused run.next Limit)) status text after
+      → Finishes (outcome_of_script s (script_from s.desc ending [] run.first (run.given ++ line ∷ lines))) status [] after
+  plays_over s x text after run line lines step ending status said over plays f =
+      ends_with s x text after run (line ∷ lines) ending (Refused run.next Limit) status plays
+      (is_over s.desc ending plays.names run.next line lines step said (same_kept plays.names (names_by x) step plays.same ∙ over)) f
 
   -- .. or of which the step is refused
-  pub plays_stopped : (s : Setup) (x : System X V) (text after : List ℕ) (first n : ℕ) (given : List (List ℕ)) (line : List ℕ) (lines : List (List ℕ))
+  pub plays_stopped : (s : Setup) (x : System X V) (text after : List ℕ) (run : Progress) (line : List ℕ) (lines : List (List ℕ))
       (reading : Result Step Why) (why : Why) (ending : Ending) (status : Status)
-      → step_of s.desc line ≡ (reading >>= λ step. Ok (Some step)) → step_kept (names_by x) reading ≡ Err why → Plays driver s x text first n given
-      → Finishes (only_ending (Refused n why)) status text after
-      → Finishes (outcome_of_script s (script_from s.desc ending [] first (given ++ line ∷ lines))) status [] after
-  plays_stopped s x text after first n given line lines reading why ending status said stopped plays f =
+      → step_of s.desc line ≡ (reading >>= λ step. Ok (Some step)) → step_kept (names_by x) reading ≡ Err why → Plays driver s x text run
+      → Finishes (only_ending (Refused run.next why)) status text after
+      → Finishes (outcome_of_script s (script_from s.desc ending [] run.first (run.given ++ line ∷ lines))) status [] after
+  plays_stopped s x text after run line lines reading why ending status said stopped plays f =
       by_cause (stopped_step (names_by x) reading why stopped)
     where
-      by_cause : IsStopped (names_by x) reading why → Finishes (outcome_of_script s (script_from s.desc ending [] first (given ++ line ∷ lines))) status [] after
+      by_cause : IsStopped (names_by x) reading why
+          → Finishes (outcome_of_script s (script_from s.desc ending [] run.first (run.given ++ line ∷ lines))) status [] after
       by_cause (inl wrong) =
-          plays_refused s x text after first n given line lines why ending status
-          (said ∙ ap (λ (r : Result Step Why). r >>= λ step. Ok (Some step)) wrong) plays f
+          plays_refused s x text after run line lines why ending status (said ∙ ap (λ (r : Result Step Why). r >>= λ step. Ok (Some step)) wrong) plays f
       by_cause (inr over) =
-          plays_over s x text after first n given line lines over.0 ending status
+          plays_over s x text after run line lines over.0 ending status
           (said ∙ ap (λ (r : Result Step Why). r >>= λ step. Ok (Some step)) over.1.0) over.1.1.0 plays
-          (subst (λ (why : Why). Finishes (only_ending (Refused n why)) status text after) (sym over.1.1.1) f)
+          (subst (λ (why : Why). Finishes (only_ending (Refused run.next why)) status text after) (sym over.1.1.1) f)
 
   -- a line that is too long
-  pub plays_long : (s : Setup) (x : System X V) (text after : List ℕ) (first n : ℕ) (given : List (List ℕ)) (line : List ℕ) (lines : List (List ℕ))
-      (ending : Ending) (status : Status)
-      → fits_line line ≡ false → Plays driver s x text first n given → Finishes (only_ending (Refused n Long)) status text after
-      → Finishes (outcome_of_script s (script_from s.desc ending [] first (given ++ line ∷ lines))) status [] after
-  plays_long s x text after first n given line lines ending status long plays f =
-      plays_refused s x text after first n given line lines Long ending status (rw long refl) plays f
+  pub plays_long : (s : Setup) (x : System X V) (text after : List ℕ) (run : Progress) (line : List ℕ) (lines : List (List ℕ)) (ending : Ending)
+      (status : Status)
+      → fits_line line ≡ false → Plays driver s x text run → Finishes (only_ending (Refused run.next Long)) status text after
+      → Finishes (outcome_of_script s (script_from s.desc ending [] run.first (run.given ++ line ∷ lines))) status [] after
+  plays_long s x text after run line lines ending status long plays f =
+      plays_refused s x text after run line lines Long ending status (rw long refl) plays f
 
   -- .. and the system stands for the history of its steps
-  pub plays_done : (s : Setup) (x : System X V) (text : List ℕ) (first n : ℕ) (given : List (List ℕ)) (ending : Ending) → Plays driver s x text first n given
-      → StandsFor driver s (with_steps s [] (script_from s.desc ending [] first given).steps) x
-  plays_done s x text first n given ending plays =
+  pub plays_done : (s : Setup) (x : System X V) (text : List ℕ) (run : Progress) (ending : Ending) → Plays driver s x text run
+      → StandsFor driver s (with_steps s [] (script_from s.desc ending [] run.first run.given).steps) x
+  plays_done s x text run ending plays =
       subst (λ (h : List Event). StandsFor driver s h x)
-      (plays.history ending [] ∙ ap (λ ls. with_steps s [] (script_from s.desc ending [] first ls).steps) (append-nil given)) plays.stands
+      (plays.history ending [] ∙ ap (λ ls. with_steps s [] (script_from s.desc ending [] run.first ls).steps) (append-nil run.given)) plays.stands
 
   -- what was printed is a front part of what any script prints that goes on like this
-  pub plays_front : (s : Setup) (x : System X V) (text : List ℕ) (first n : ℕ) (given lines : List (List ℕ)) (ending : Ending)
-      → Plays driver s x text first n given
-      → IsFrontOf (outcome_of_script s (script_from s.desc ending [] first (given ++ lines))) text
-  plays_front s x text first n given lines ending plays = record {
-    rest = text_after s plays.done (script_from s.desc ending plays.names n lines);
+  pub plays_front : (s : Setup) (x : System X V) (text : List ℕ) (run : Progress) (lines : List (List ℕ)) (ending : Ending) → Plays driver s x text run
+      → IsFrontOf (outcome_of_script s (script_from s.desc ending [] run.first (run.given ++ lines))) text
+  plays_front s x text run lines ending plays = record {
+    rest = text_after s plays.done (script_from s.desc ending plays.names run.next lines);
     parts = sym (plays.printed ending lines);
   }
 
   -- .. and it is all that the script's lines print
-  pub plays_all : (s : Setup) (x : System X V) (text : List ℕ) (first n : ℕ) (given : List (List ℕ)) → Plays driver s x text first n given
-      → text ≡ script_text s (script_from s.desc Finished [] first given)
-  plays_all s x text first n given plays =
-      sym (append-nil text) ∙ plays.printed Finished [] ∙ ap (λ ls. script_text s (script_from s.desc Finished [] first ls)) (append-nil given)
+  pub plays_all : (s : Setup) (x : System X V) (text : List ℕ) (run : Progress) → Plays driver s x text run
+      → text ≡ script_text s (script_from s.desc Finished [] run.first run.given)
+  plays_all s x text run plays =
+      sym (append-nil text) ∙ plays.printed Finished [] ∙ ap (λ ls. script_text s (script_from s.desc Finished [] run.first ls)) (append-nil run.given)
 
 -- ---- what was written before
 

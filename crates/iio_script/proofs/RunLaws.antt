@@ -3,12 +3,11 @@ use Rattle.std.proofs.Common.{◌≡◌, ℕ, ◌+◌, List, [], ◌++◌, Optio
 use Rattle.iio_io.specs.Bytes.{TakesAtMost}
 use Rattle.iio_history.specs.Input.{input_limit}
 use Rattle.iio_history.specs.Outcome.{Outcome}
-use Rattle.iio_history.specs.Registry.{Setup}
 use Rattle.iio_script.specs.declared.status.Status.{Status}
 use Rattle.iio_script.specs.declared.status.Status.TheVariants.{Done, Memory, ReadFault, Refused, TooLong, Usage, WriteFault}
 use Rattle.iio_script.specs.Ends.{Finishes, Sends}
 use Rattle.iio_script.specs.LineReader.{Follows, Hand, IsHand}
-use Rattle.iio_script.specs.Plays.{AnswersScript, EndsScript, EndsSteps, EndsWriting, IsFrontOf, IsOver, Prints, WritesText}
+use Rattle.iio_script.specs.Plays.{AnswersScript, EndsScript, EndsSteps, EndsWriting, IsFrontOf, IsOver, Prints, Start, WritesText}
 use Rattle.iio_script.proofs.AnswerLaws.{answers_more}
 use Rattle.iio_script.proofs.EndLaws.{sends_more}
 use Rattle.iio_script.proofs.FollowLaws.{takes_at_most}
@@ -21,29 +20,29 @@ front_all outcome text is = record { rest = []; parts = sym is ∙ sym (append-n
 front_shorter : (outcome : Outcome) (text more : List ℕ) → IsFrontOf outcome (text ++ more) → IsFrontOf outcome text
 front_shorter outcome text more front = record { rest = more ++ front.rest; parts = front.parts ∙ append_assoc text more front.rest }
 
-front_of_steps : (s : Setup) (first : ℕ) (front : List (List ℕ)) (outcome : Outcome) (input : List ℕ) (status : Status) (sent kept : List ℕ)
+front_of_steps : (start : Start) (outcome : Outcome) (input : List ℕ) (status : Status) (sent kept : List ℕ)
     (left : Option (List ℕ))
-    → EndsSteps s first front outcome input (Ok status) sent kept left → IsFrontOf outcome (sent ++ kept)
-front_of_steps s first front outcome input Done sent kept left f = front_all outcome (sent ++ kept) f.finishes.printed
-front_of_steps s first front outcome input (Refused line why) sent kept left f = front_all outcome (sent ++ kept) f.finishes.printed
-front_of_steps s first front outcome input Usage sent kept left f = front_all outcome (sent ++ kept) f.finishes.printed
-front_of_steps s first front outcome input ReadFault sent kept left f = f.begins
-front_of_steps s first front outcome input WriteFault sent kept left f = front_all outcome (sent ++ kept) f.finishes.printed
-front_of_steps s first front outcome input Memory sent kept left f = front_all outcome (sent ++ kept) f.finishes.printed
-front_of_steps s first front outcome input TooLong sent kept left f = front_all outcome (sent ++ kept) f.finishes.printed
+    → EndsSteps start outcome input (Ok status) sent kept left → IsFrontOf outcome (sent ++ kept)
+front_of_steps start outcome input Done sent kept left f = front_all outcome (sent ++ kept) f.finishes.printed
+front_of_steps start outcome input (Refused line why) sent kept left f = front_all outcome (sent ++ kept) f.finishes.printed
+front_of_steps start outcome input Usage sent kept left f = front_all outcome (sent ++ kept) f.finishes.printed
+front_of_steps start outcome input ReadFault sent kept left f = f.begins
+front_of_steps start outcome input WriteFault sent kept left f = front_all outcome (sent ++ kept) f.finishes.printed
+front_of_steps start outcome input Memory sent kept left f = front_all outcome (sent ++ kept) f.finishes.printed
+front_of_steps start outcome input TooLong sent kept left f = front_all outcome (sent ++ kept) f.finishes.printed
 
 -- ---- the end of a script
 
-script_of_steps : (s : Setup) (first : ℕ) (front : List (List ℕ)) (outcome : Outcome) (input : List ℕ) (status : Status) (sent kept : List ℕ)
+script_of_steps : (start : Start) (outcome : Outcome) (input : List ℕ) (status : Status) (sent kept : List ℕ)
     (left : Option (List ℕ))
-    → EndsSteps s first front outcome input (Ok status) sent kept left → EndsScript s first front outcome input status (sent ++ kept) left
-script_of_steps s first front outcome input Done sent kept left f = f
-script_of_steps s first front outcome input (Refused line why) sent kept left f = f
-script_of_steps s first front outcome input Usage sent kept left f = f
-script_of_steps s first front outcome input ReadFault sent kept left f = f
-script_of_steps s first front outcome input WriteFault sent kept left f = absurd f.finishes.end
-script_of_steps s first front outcome input Memory sent kept left f = absurd f.finishes.end
-script_of_steps s first front outcome input TooLong sent kept left f = f
+    → EndsSteps start outcome input (Ok status) sent kept left → EndsScript start outcome input status (sent ++ kept) left
+script_of_steps start outcome input Done sent kept left f = f
+script_of_steps start outcome input (Refused line why) sent kept left f = f
+script_of_steps start outcome input Usage sent kept left f = f
+script_of_steps start outcome input ReadFault sent kept left f = f
+script_of_steps start outcome input WriteFault sent kept left f = absurd f.finishes.end
+script_of_steps start outcome input Memory sent kept left f = absurd f.finishes.end
+script_of_steps start outcome input TooLong sent kept left f = f
 
 -- all that was kept was sent
 sent_all : (first before after : Option (List ℕ)) (sent kept : List ℕ) → WritesText first before sent → Sends before after kept []
@@ -52,37 +51,37 @@ sent_all first before after sent kept writes sends =
     subst (λ (k : List ℕ). WritesText first after (sent ++ k)) (sym (sends.parts ∙ append-nil sends.sent))
     (sends_more first before after sent kept [] writes sends)
 
-pub script_written : (s : Setup) (first : ℕ) (front : List (List ℕ)) (outcome : Outcome) (input : List ℕ) (status result : Status) (sent kept : List ℕ)
+pub script_written : (start : Start) (outcome : Outcome) (input : List ℕ) (status result : Status) (sent kept : List ℕ)
     (left w0 w1 w2 : Option (List ℕ))
-    → WritesText w0 w1 sent → EndsSteps s first front outcome input (Ok status) sent kept left → EndsWriting status result w1 w2 kept
-    → (more : List ℕ) × WritesText w0 w2 (sent ++ more) × EndsScript s first front outcome input result (sent ++ more) left
-script_written s first front outcome input status result sent kept left w0 w1 w2 writes ends (inl (is, sends)) = (
+    → WritesText w0 w1 sent → EndsSteps start outcome input (Ok status) sent kept left → EndsWriting status result w1 w2 kept
+    → (more : List ℕ) × WritesText w0 w2 (sent ++ more) × EndsScript start outcome input result (sent ++ more) left
+script_written start outcome input status result sent kept left w0 w1 w2 writes ends (inl (is, sends)) = (
   kept,
   sent_all w0 w1 w2 sent kept writes sends,
-  subst (λ (r : Status). EndsScript s first front outcome input r (sent ++ kept) left) (sym is)
-      (script_of_steps s first front outcome input status sent kept left ends),
+  subst (λ (r : Status). EndsScript start outcome input r (sent ++ kept) left) (sym is)
+      (script_of_steps start outcome input status sent kept left ends),
 )
-script_written s first front outcome input status result sent kept left w0 w1 w2 writes ends (inr (is, (rest, sends))) =
-    let all : IsFrontOf outcome (sent ++ kept) = front_of_steps s first front outcome input status sent kept left ends in
+script_written start outcome input status result sent kept left w0 w1 w2 writes ends (inr (is, (rest, sends))) =
+    let all : IsFrontOf outcome (sent ++ kept) = front_of_steps start outcome input status sent kept left ends in
     let part : IsFrontOf outcome ((sent ++ sends.sent) ++ rest) =
     subst (λ (t : List ℕ). IsFrontOf outcome t) (ap (λ k. sent ++ k) sends.parts ∙ sym (append_assoc sent sends.sent rest)) all in (
       sends.sent,
       sends_more w0 w1 w2 sent kept rest writes sends,
-      subst (λ (r : Status). EndsScript s first front outcome input r (sent ++ sends.sent) left) (sym is)
+      subst (λ (r : Status). EndsScript start outcome input r (sent ++ sends.sent) left) (sym is)
           (front_shorter outcome (sent ++ sends.sent) rest part),
     )
 
 -- nothing more is written
-pub script_fault : (s : Setup) (first : ℕ) (front : List (List ℕ)) (outcome : Outcome) (input : List ℕ) (status : Status) (sent kept : List ℕ)
+pub script_fault : (start : Start) (outcome : Outcome) (input : List ℕ) (status : Status) (sent kept : List ℕ)
     (left : Option (List ℕ)) → IsOver (Err status)
-    → EndsSteps s first front outcome input (Err status) sent kept left → EndsScript s first front outcome input status sent left
-script_fault s first front outcome input WriteFault sent kept left over f = f
-script_fault s first front outcome input Memory sent kept left over f = f
-script_fault s first front outcome input Done sent kept left over f = absurd over
-script_fault s first front outcome input (Refused line why) sent kept left over f = absurd over
-script_fault s first front outcome input Usage sent kept left over f = absurd over
-script_fault s first front outcome input ReadFault sent kept left over f = absurd over
-script_fault s first front outcome input TooLong sent kept left over f = absurd over
+    → EndsSteps start outcome input (Err status) sent kept left → EndsScript start outcome input status sent left
+script_fault start outcome input WriteFault sent kept left over f = f
+script_fault start outcome input Memory sent kept left over f = f
+script_fault start outcome input Done sent kept left over f = absurd over
+script_fault start outcome input (Refused line why) sent kept left over f = absurd over
+script_fault start outcome input Usage sent kept left over f = absurd over
+script_fault start outcome input ReadFault sent kept left over f = absurd over
+script_fault start outcome input TooLong sent kept left over f = absurd over
 
 -- ---- an end before which nothing was printed
 
@@ -119,30 +118,30 @@ end_none outcome before = ([], nothing_sent before, record { rest = outcome.prin
 
 -- ---- a script, and how much it took
 
-abbrev Whole : Setup → (first : ℕ) (front : List (List ℕ)) → Outcome → (input : List ℕ) → Status → (begin left before after : Option (List ℕ)) → Type 0
-Whole s first front outcome input result begin left before after =
-    (text : List ℕ) × WritesText before after text × EndsScript s first front outcome input result text left × TakesAtMost input (input_limit + 1) left
-    × AnswersScript s first front input text begin left
+abbrev Whole : Start → Outcome → (input : List ℕ) → Status → (begin left before after : Option (List ℕ)) → Type 0
+Whole start outcome input result begin left before after =
+    (text : List ℕ) × WritesText before after text × EndsScript start outcome input result text left × TakesAtMost input (input_limit + 1) left
+    × AnswersScript start input text begin left
 
-pub whole_none : (s : Setup) (first : ℕ) (front : List (List ℕ)) (outcome : Outcome) (input : List ℕ) (h : Hand) (left before : Option (List ℕ)) → IsHand h
-    → Follows input front h left
-    → Whole s first front outcome input Memory left left before before
-whole_none s first front outcome input h left before is follows =
-    ([], nothing_sent before, record { rest = outcome.printed; parts = refl }, takes_at_most input front h left is follows, inl refl)
+pub whole_none : (start : Start) (outcome : Outcome) (input : List ℕ) (h : Hand) (left before : Option (List ℕ)) → IsHand h
+    → Follows input start.front h left
+    → Whole start outcome input Memory left left before before
+whole_none start outcome input h left before is follows =
+    ([], nothing_sent before, record { rest = outcome.printed; parts = refl }, takes_at_most input start.front h left is follows, inl refl)
 
-pub whole_written : (s : Setup) (first : ℕ) (front : List (List ℕ)) (outcome : Outcome) (input : List ℕ) (status result : Status) (kept : List ℕ)
+pub whole_written : (start : Start) (outcome : Outcome) (input : List ℕ) (status result : Status) (kept : List ℕ)
     (begin left w0 w1 w2 : Option (List ℕ))
-    → ((sent : List ℕ) × WritesText w0 w1 sent × EndsSteps s first front outcome input (Ok status) sent kept left × TakesAtMost input (input_limit + 1) left
-    × AnswersScript s first front input sent begin left)
-    → EndsWriting status result w1 w2 kept → Whole s first front outcome input result begin left w0 w2
-whole_written s first front outcome input status result kept begin left w0 w1 w2 ends writing =
-    let written = script_written s first front outcome input status result ends.0 kept left w0 w1 w2 ends.1 ends.2 writing in
-    (ends.0 ++ written.0, written.1, written.2, ends.3, answers_more s first front input ends.0 written.0 begin left ends.4)
+    → ((sent : List ℕ) × WritesText w0 w1 sent × EndsSteps start outcome input (Ok status) sent kept left × TakesAtMost input (input_limit + 1) left
+    × AnswersScript start input sent begin left)
+    → EndsWriting status result w1 w2 kept → Whole start outcome input result begin left w0 w2
+whole_written start outcome input status result kept begin left w0 w1 w2 ends writing =
+    let written = script_written start outcome input status result ends.0 kept left w0 w1 w2 ends.1 ends.2 writing in
+    (ends.0 ++ written.0, written.1, written.2, ends.3, answers_more start input ends.0 written.0 begin left ends.4)
 
-pub whole_fault : (s : Setup) (first : ℕ) (front : List (List ℕ)) (outcome : Outcome) (input : List ℕ) (status : Status) (kept : List ℕ)
+pub whole_fault : (start : Start) (outcome : Outcome) (input : List ℕ) (status : Status) (kept : List ℕ)
     (begin left w0 w1 : Option (List ℕ))
-    → ((sent : List ℕ) × WritesText w0 w1 sent × EndsSteps s first front outcome input (Err status) sent kept left × TakesAtMost input (input_limit + 1) left
-    × AnswersScript s first front input sent begin left)
-    → IsOver (Err status) → Whole s first front outcome input status begin left w0 w1
-whole_fault s first front outcome input status kept begin left w0 w1 ends over =
-    (ends.0, ends.1, script_fault s first front outcome input status ends.0 kept left over ends.2, ends.3, ends.4)
+    → ((sent : List ℕ) × WritesText w0 w1 sent × EndsSteps start outcome input (Err status) sent kept left × TakesAtMost input (input_limit + 1) left
+    × AnswersScript start input sent begin left)
+    → IsOver (Err status) → Whole start outcome input status begin left w0 w1
+whole_fault start outcome input status kept begin left w0 w1 ends over =
+    (ends.0, ends.1, script_fault start outcome input status ends.0 kept left over ends.2, ends.3, ends.4)

@@ -19,7 +19,7 @@ use Rattle.iio_script.specs.declared.status.Status.{Status}
 use Rattle.iio_script.specs.declared.status.Status.TheVariants as status
 use Rattle.iio_script.specs.Ends.{Finishes, Sends, status_of}
 use Rattle.iio_script.specs.LineReader.{Follows, Hand, HasLine, IsCut, IsDone, IsHand, IsLong, NeedsMore, TakesNear, line_of}
-use Rattle.iio_script.specs.Plays.{AnswersScript, EndsSteps, FinishesAt, IsFrontOf, IsRefusedWith, Plays, TakesFor}
+use Rattle.iio_script.specs.Plays.{AnswersScript, EndsSteps, FinishesAt, IsFrontOf, IsRefusedWith, Plays, Start, TakesFor, progress_of, start_of, with_line}
 use Rattle.iio_script.proofs.AnswerLaws.{answers_found, answers_more}
 use Rattle.iio_script.proofs.EndLaws.{sends_more}
 use Rattle.iio_script.proofs.FollowLaws.{cut_line, follows_begin, long_line, near, next_line, no_line, takes_at_most, whole_lines}
@@ -37,19 +37,19 @@ abbrev Ended : Setup → (first : ℕ) (front more : List (List ℕ)) (input : L
     → (kept : List ℕ) (begin left written written' : Option (List ℕ)) → Type 0
 Ended s first front more input result kept begin left written written' =
     (sent : List ℕ) × (IfSome written (λ before. written' ≡ Some (before ++ sent)))
-    × EndsSteps s first front (script_outcome s input first more) input result sent kept left
-    × TakesAtMost input (input_limit + 1) left × AnswersScript s first front input sent begin left
+    × EndsSteps (start_of s first front) (script_outcome s input first more) input result sent kept left
+    × TakesAtMost input (input_limit + 1) left × AnswersScript (start_of s first front) input sent begin left
 
 -- a script that has ended
-ended : (s : Setup) (first : ℕ) (front : List (List ℕ)) (outcome : Outcome) (input : List ℕ) (st : Status) (sent kept : List ℕ) (left : Option (List ℕ))
-    → FinishesAt outcome st input (sent ++ kept) left → EndsSteps s first front outcome input (Ok st) sent kept left
-ended s first front outcome input status.Done sent kept left f = f
-ended s first front outcome input (status.Refused line why) sent kept left f = f
-ended s first front outcome input status.Usage sent kept left f = f
-ended s first front outcome input status.ReadFault sent kept left f = absurd f.finishes.end
-ended s first front outcome input status.WriteFault sent kept left f = f
-ended s first front outcome input status.Memory sent kept left f = f
-ended s first front outcome input status.TooLong sent kept left f = f
+ended : (start : Start) (outcome : Outcome) (input : List ℕ) (st : Status) (sent kept : List ℕ) (left : Option (List ℕ))
+    → FinishesAt outcome st input (sent ++ kept) left → EndsSteps start outcome input (Ok st) sent kept left
+ended start outcome input status.Done sent kept left f = f
+ended start outcome input (status.Refused line why) sent kept left f = f
+ended start outcome input status.Usage sent kept left f = f
+ended start outcome input status.ReadFault sent kept left f = absurd f.finishes.end
+ended start outcome input status.WriteFault sent kept left f = f
+ended start outcome input status.Memory sent kept left f = f
+ended start outcome input status.TooLong sent kept left f = f
 
 -- only a refusal says at which line it is
 near_for : (st : Status) (number : ℕ) (input : List ℕ) (left : Option (List ℕ)) → IsRefusedWith number st → TakesNear number input left → TakesFor st input left
@@ -81,19 +81,19 @@ module _ {X : Type 0} {V : X → Type 0} (driver : Plug X V → Driver) where
     pub given : List (List ℕ)
     pub sent : List ℕ
     pub writes : IfSome written (λ before. written' ≡ Some (before ++ sent))
-    pub plays : Plays driver s x (sent ++ kept) first n given
+    pub plays : Plays driver s x (sent ++ kept) (progress_of first n given)
     pub count : n ≡ first + length given
     pub follows : (input : List ℕ) (front : List (List ℕ)) → Follows input front h left → Follows input (front ++ given) h' left'
-    pub answers : (input : List ℕ) (front : List (List ℕ)) → Follows input front h left → AnswersScript s first front input sent left left'
+    pub answers : (input : List ℕ) (front : List (List ℕ)) → Follows input front h left → AnswersScript (start_of s first front) input sent left left'
 
   pub so_far_first : (s : Setup) (x : System X V) (kept : List ℕ) (first : ℕ) (h : Hand) (left written : Option (List ℕ)) → kept ≡ []
-      → Plays driver s x [] first first []
+      → Plays driver s x [] (progress_of first first [])
       → SoFar s x kept first first h h left left written written
   so_far_first s x kept first h left written none plays = record {
     given = [];
     sent = [];
     writes = told written;
-    plays = subst (λ (t : List ℕ). Plays driver s x t first first []) (sym none) plays;
+    plays = subst (λ (t : List ℕ). Plays driver s x t (progress_of first first [])) (sym none) plays;
     count = omega arith;
     follows = λ input front follows. subst (λ (f : List (List ℕ)). Follows input f h left) (sym (append-nil front)) follows;
     answers = λ input front follows. inl refl;
@@ -112,10 +112,11 @@ module _ {X : Type 0} {V : X → Type 0} (driver : Plug X V → Driver) where
     sent = so.sent ++ sends.sent;
     writes = sends_more written w1 w2 so.sent kept kept' so.writes sends;
     plays =
-        subst (λ (t : List ℕ). Plays driver s x t first n so.given) (ap (λ t. so.sent ++ t) sends.parts ∙ sym (append_assoc so.sent sends.sent kept')) so.plays;
+        subst (λ (t : List ℕ). Plays driver s x t (progress_of first n so.given))
+        (ap (λ t. so.sent ++ t) sends.parts ∙ sym (append_assoc so.sent sends.sent kept')) so.plays;
     count = so.count;
     follows = λ input front follows. keeps input (front ++ so.given) left' (so.follows input front follows);
-    answers = λ input front follows. answers_more s first front input so.sent sends.sent left left' (so.answers input front follows);
+    answers = λ input front follows. answers_more (start_of s first front) input so.sent sends.sent left left' (so.answers input front follows);
   }
 
   -- the next line was looked for
@@ -134,19 +135,19 @@ module _ {X : Type 0} {V : X → Type 0} (driver : Plug X V → Driver) where
   }
     where
       answers_by : (l2 ≡ l1) ⊎ ((h2.over ≡ false) × (kept ≡ [])) → (input : List ℕ) (front : List (List ℕ)) → Follows input front h left
-          → AnswersScript s first front input so.sent left l2
+          → AnswersScript (start_of s first front) input so.sent left l2
       answers_by (inl same) input front follows =
-          subst (λ (l : Option (List ℕ)). AnswersScript s first front input so.sent left l) (sym same) (so.answers input front follows)
+          subst (λ (l : Option (List ℕ)). AnswersScript (start_of s first front) input so.sent left l) (sym same) (so.answers input front follows)
       answers_by (inr (going, none)) input front follows =
-          answers_found s first front so.given input so.sent h2 left l2 is
-          (sym (append-nil so.sent) ∙ ap (λ k. so.sent ++ k) (sym none) ∙ plays_all driver s x (so.sent ++ kept) first n so.given so.plays) going
+          answers_found (start_of s first front) so.given input so.sent h2 left l2 is
+          (sym (append-nil so.sent) ∙ ap (λ k. so.sent ++ k) (sym none) ∙ plays_all driver s x (so.sent ++ kept) _ so.plays) going
           (keeps input (front ++ so.given) (so.follows input front follows))
 
   -- it was played
   pub so_far_played : (s : Setup) (x x' : System X V) (kept kept' line : List ℕ) (first n : ℕ) (h h1 h2 : Hand) (left left' written written' : Option (List ℕ))
       → ((input : List ℕ) (front : List (List ℕ)) (l : Option (List ℕ)) → Follows input front h1 l → Follows input (front ++ line_of h1 ∷ []) h2 l)
       → line ≡ line_of h1
-      → (so : SoFar s x kept first n h h1 left left' written written') → Plays driver s x' (so.sent ++ kept') first (n + 1) (so.given ++ line ∷ [])
+      → (so : SoFar s x kept first n h h1 left left' written written') → Plays driver s x' (so.sent ++ kept') (with_line (progress_of first n so.given) line)
       → SoFar s x' kept' first (n + 1) h h2 left left' written written'
   so_far_played s x x' kept kept' line first n h h1 h2 left left' written written' passes same so plays = record {
     given = so.given ++ line ∷ [];
@@ -177,7 +178,7 @@ module _ {X : Type 0} {V : X → Type 0} (driver : Plug X V → Driver) where
       let lines : more ≡ so.given ++ begins.more = given_of front so.given more begins.more input looked begins.parts in
       let whole : IsFrontOf (script_outcome s input first more) (so.sent ++ kept) =
       subst (λ (ls : List (List ℕ)). IsFrontOf (script_outcome s input first ls) (so.sent ++ kept)) (sym lines)
-      (plays_front driver s x (so.sent ++ kept) first n so.given begins.more (last_ending (is_overlong input)) so.plays) in (
+      (plays_front driver s x (so.sent ++ kept) _ begins.more (last_ending (is_overlong input)) so.plays) in (
         so.sent,
         so.writes,
         record { rest = kept ++ whole.rest; parts = whole.parts ∙ append_assoc so.sent kept whole.rest },
@@ -210,12 +211,12 @@ module _ {X : Type 0} {V : X → Type 0} (driver : Plug X V → Driver) where
         so.writes,
         record {
           begins = subst (λ (ls : List (List ℕ)). IsFrontOf (script_outcome s input first ls) (so.sent ++ kept)) (sym lines)
-              (plays_front driver s x (so.sent ++ kept) first n so.given begins.more (last_ending (is_overlong input)) so.plays);
+              (plays_front driver s x (so.sent ++ kept) _ begins.more (last_ending (is_overlong input)) so.plays);
           count = _;
           rest = whole.1;
           given = so.given;
           lines = whole.0;
-          printed = plays_all driver s x (so.sent ++ kept) first n so.given so.plays;
+          printed = plays_all driver s x (so.sent ++ kept) _ so.plays;
         },
         takes_at_most input (front ++ so.given) h' left' is now,
         so.answers input front follows,
@@ -226,16 +227,16 @@ module _ {X : Type 0} {V : X → Type 0} (driver : Plug X V → Driver) where
       (front more : List (List ℕ)) (input : List ℕ) (over : Bool) (st : Status)
       → scanned_lines input ≡ front ++ more → (so : SoFar s x kept first n h h' left left' written written') → scanned_lines input ≡ front ++ so.given
       → is_overlong input ≡ over
-      → TakesAtMost input (input_limit + 1) left' → AnswersScript s first front input so.sent left left'
+      → TakesAtMost input (input_limit + 1) left' → AnswersScript (start_of s first front) input so.sent left left'
       → Finishes (only_ending (last_ending over)) st kept kept' → Ended s first front more input (Ok st) kept' left left' written written'
   ends_last s x kept kept' first n h h' left left' written written' front more input over st looked so all long takes answers f =
       let lines : more ≡ so.given = same_rest front more so.given (sym looked ∙ all) in
       let finishes : Finishes (outcome_of_script s (script_from s.desc (last_ending over) [] first so.given)) st [] (so.sent ++ kept') =
-      plays_last driver s x (so.sent ++ kept) (so.sent ++ kept') first n so.given (last_ending over) st so.plays
+      plays_last driver s x (so.sent ++ kept) (so.sent ++ kept') _ (last_ending over) st so.plays
       (behind_sent so.sent kept kept' (only_ending (last_ending over)) st f) in (
         so.sent,
         so.writes,
-        ended s first front (script_outcome s input first more) input st so.sent kept' left' (record {
+        ended (start_of s first front) (script_outcome s input first more) input st so.sent kept' left' (record {
           finishes = subst (λ (ls : List (List ℕ)). Finishes (script_outcome s input first ls) st [] (so.sent ++ kept')) (sym lines)
               (subst (λ (o : Bool). Finishes (outcome_of_script s (script_from s.desc (last_ending o) [] first so.given)) st [] (so.sent ++ kept')) (sym long)
               finishes);
@@ -268,7 +269,7 @@ module _ {X : Type 0} {V : X → Type 0} (driver : Plug X V → Driver) where
       let lines : more ≡ so.given = same_rest front more so.given (sym looked ∙ none.0) in
       subst (λ (ls : List (List ℕ)). StandsFor driver s (with_steps s [] (script_from s.desc (last_ending (is_overlong input)) [] first ls).steps) x)
       (sym lines)
-      (plays_done driver s x (so.sent ++ kept) first n so.given (last_ending (is_overlong input)) so.plays)
+      (plays_done driver s x (so.sent ++ kept) _ (last_ending (is_overlong input)) so.plays)
 
   -- the end of what is looked at
   pub ends_cut : (s : Setup) (x : System X V) (kept kept' : List ℕ) (first n : ℕ) (h h' : Hand) (left left' written written' : Option (List ℕ))
@@ -286,14 +287,14 @@ module _ {X : Type 0} {V : X → Type 0} (driver : Plug X V → Driver) where
       (front more rest : List (List ℕ)) (line : List ℕ) (input : List ℕ) (st : Status)
       → scanned_lines input ≡ front ++ more → (so : SoFar s x kept first n h h' left left' written written')
       → scanned_lines input ≡ (front ++ so.given) ++ line ∷ rest
-      → TakesAtMost input (input_limit + 1) left' → AnswersScript s first front input so.sent left left' → TakesFor st input left'
+      → TakesAtMost input (input_limit + 1) left' → AnswersScript (start_of s first front) input so.sent left left' → TakesFor st input left'
       → Finishes (script_outcome s input first (so.given ++ line ∷ rest)) st [] (so.sent ++ kept')
       → Ended s first front more input (Ok st) kept' left left' written written'
   refused s x kept kept' first n h h' left left' written written' front more rest line input st looked so begins takes answers near f =
       let lines : more ≡ so.given ++ line ∷ rest = given_of front so.given more (line ∷ rest) input looked begins in (
         so.sent,
         so.writes,
-        ended s first front (script_outcome s input first more) input st so.sent kept' left' (record {
+        ended (start_of s first front) (script_outcome s input first more) input st so.sent kept' left' (record {
           finishes = subst (λ (ls : List (List ℕ)). Finishes (script_outcome s input first ls) st [] (so.sent ++ kept')) (sym lines) f;
           near = near;
         }),
@@ -340,5 +341,5 @@ module _ {X : Type 0} {V : X → Type 0} (driver : Plug X V → Driver) where
       (near_for st n input left' (refused_with st n Long f.ends)
       (near input (front ++ so.given) h' left' n found.Long is long (λ is_cut. no_cut_long is_cut) now
       (next_number s x kept first n h h' left left' written written' front at so)))
-      (plays_long driver s x (so.sent ++ kept) (so.sent ++ kept') first n so.given next.line next.more (last_ending (is_overlong input)) st next.long so.plays
+      (plays_long driver s x (so.sent ++ kept) (so.sent ++ kept') _ next.line next.more (last_ending (is_overlong input)) st next.long so.plays
       (behind_sent so.sent kept kept' (only_ending (Refused n Long)) st f))

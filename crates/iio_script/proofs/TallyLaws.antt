@@ -7,7 +7,6 @@ use Rattle.iio_desc.specs.DescReader.{new_reader}
 use Rattle.iio_device.specs.declared.plug.Plug.{Plug}
 use Rattle.iio_history.specs.Input.{is_overlong, scanned_lines}
 use Rattle.iio_history.specs.Outcome.{Head, Described, head_from, head_of, last_ending, outcome_of_head, outcome_of_script}
-use Rattle.iio_history.specs.Registry.{Setup}
 use Rattle.iio_history.specs.Script.{Ending, Finished, Script, TooLong, script_from}
 use Rattle.iio_history.specs.Script as ending
 use Rattle.iio_system.specs.declared.system.System.{System}
@@ -20,7 +19,7 @@ use Rattle.iio_script.specs.declared.stop.Stop.{Stop}
 use Rattle.iio_script.specs.declared.stop.Stop.TheVariants as stop
 use Rattle.iio_script.specs.Ends.{status_of}
 use Rattle.iio_script.specs.LineReader.{Follows, Hand, IsHand}
-use Rattle.iio_script.specs.Plays.{EndsSteps}
+use Rattle.iio_script.specs.Plays.{EndsSteps, Start}
 use Rattle.iio_script.specs.Tallies.{Tallies, TalliesScript, summary_of_head}
 use Rattle.iio_script.specs.Told.{EndsAlone, EndsAt, RefusesAt}
 use Rattle.iio_script.proofs.FollowLaws.{follows_begin}
@@ -40,14 +39,14 @@ refused_ends line why (ending.Refused other because) is = refused_same (sym is)
     refused_same same = cc
 refused_ends line why TooLong is = absurd (cc)
 
-pub script_done : (s : Setup) (first : ℕ) (front : List (List ℕ)) (script : Script) (input sent kept : List ℕ) (left : Option (List ℕ))
-    → EndsSteps s first front (outcome_of_script s script) input (Ok Done) sent kept left → script.ending ≡ Finished
-script_done s first front script input sent kept left f = done_ends script.ending f.finishes.ends
+pub script_done : (start : Start) (script : Script) (input sent kept : List ℕ) (left : Option (List ℕ))
+    → EndsSteps start (outcome_of_script start.setup script) input (Ok Done) sent kept left → script.ending ≡ Finished
+script_done start script input sent kept left f = done_ends script.ending f.finishes.ends
 
-pub script_refused : (s : Setup) (first : ℕ) (front : List (List ℕ)) (script : Script) (line : ℕ) (why : Why) (input sent kept : List ℕ)
+pub script_refused : (start : Start) (script : Script) (line : ℕ) (why : Why) (input sent kept : List ℕ)
     (left : Option (List ℕ))
-    → EndsSteps s first front (outcome_of_script s script) input (Ok (Refused line why)) sent kept left → script.ending ≡ ending.Refused line why
-script_refused s first front script line why input sent kept left f = refused_ends line why script.ending f.finishes.ends
+    → EndsSteps start (outcome_of_script start.setup script) input (Ok (Refused line why)) sent kept left → script.ending ≡ ending.Refused line why
+script_refused start script line why input sent kept left f = refused_ends line why script.ending f.finishes.ends
 
 -- ---- no drivers
 

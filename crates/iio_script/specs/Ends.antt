@@ -53,16 +53,24 @@ HasStatus outcome WriteFault = Unit {0}
 HasStatus outcome Memory = Unit {0}
 HasStatus outcome status = status ≡ status_of outcome.ending
 
--- what the status of a run shows of its source and its sink, each of which is seen by its
--- visible bytes and its count of faults: a failed read or write is returned only if such a
--- fault came, lack of memory only if none came; no count falls, and what isn't visible stays so
-pub record ShowsFaults {S K : Type 0} (left : S → Option (List ℕ)) (reads : S → ℕ) (written : K → Option (List ℕ)) (writes : K → ℕ)
-    (status : Status) (source source' : S) (sink sink' : K) : Type 0 where
-  pub read_fault : status ≡ ReadFault → Rose (reads source) (reads source')
-  pub write_fault : status ≡ WriteFault → Rose (writes sink) (writes sink')
-  pub memory : status ≡ Memory → (reads source' ≡ reads source) × (writes sink' ≡ writes sink)
-  pub counted : (reads source ≤ reads source') × (writes sink ≤ writes sink')
-  pub silent : (IfNone (left source) (left source' ≡ None)) × (IfNone (written sink) (written sink' ≡ None))
+-- how a source and a sink are seen: the visible bytes of each, and its count of faults
+pub record Views (S K : Type 0) : Type 0 where
+  pub left : S → Option (List ℕ)
+  pub reads : S → ℕ
+  pub written : K → Option (List ℕ)
+  pub writes : K → ℕ
+
+abbrev pub views_of : {S K : Type 0} → (S → Option (List ℕ)) → (S → ℕ) → (K → Option (List ℕ)) → (K → ℕ) → Views S K
+views_of left reads written writes = record { left = left; reads = reads; written = written; writes = writes }
+
+-- what the status of a run shows of its source and its sink: a failed read or write is returned only if
+-- such a fault came, lack of memory only if none came; no count falls, and what isn't visible stays so
+pub record ShowsFaults {S K : Type 0} (views : Views S K) (status : Status) (source source' : S) (sink sink' : K) : Type 0 where
+  pub read_fault : status ≡ ReadFault → Rose (views.reads source) (views.reads source')
+  pub write_fault : status ≡ WriteFault → Rose (views.writes sink) (views.writes sink')
+  pub memory : status ≡ Memory → (views.reads source' ≡ views.reads source) × (views.writes sink' ≡ views.writes sink)
+  pub counted : (views.reads source ≤ views.reads source') × (views.writes sink ≤ views.writes sink')
+  pub silent : (IfNone (views.left source) (views.left source' ≡ None)) × (IfNone (views.written sink) (views.written sink' ≡ None))
 
 -- a front part of the bytes `kept` was written, and `rest` is left
 pub record Sends (before after : Option (List ℕ)) (kept rest : List ℕ) : Type 0 where

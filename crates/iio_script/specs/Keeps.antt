@@ -8,7 +8,7 @@ use Rattle.iio_history.specs.Event.{Event}
 use Rattle.iio_history.specs.Numbered.{Numbered, numbered_from}
 use Rattle.iio_history.specs.Registry.{Setup}
 use Rattle.iio_history.specs.Script.{Ending, Refused, TooLong, script_from}
-use Rattle.iio_history.specs.Transcript.{Step, with_step}
+use Rattle.iio_history.specs.Transcript.{with_step}
 use Rattle.iio_system.specs.declared.system.System.{System}
 use Rattle.iio_system.specs.Standing.{StandsFor, names_by}
 use Rattle.iio_worlds.specs.Bystanders.{only_bystanders}
@@ -18,7 +18,7 @@ use Rattle.iio_script.specs.declared.keeping.Keeping.{Keeping}
 use Rattle.iio_script.specs.declared.keeping.Keeping.TheVariants as keeping
 use Rattle.iio_script.specs.declared.stop.Stop.{Stop}
 use Rattle.iio_script.specs.declared.stop.Stop.TheVariants as stop
-use Rattle.iio_script.specs.Plays.{AreSame}
+use Rattle.iio_script.specs.Plays.{AreSame, Progress, with_line}
 
 -- the result of a run: what is kept, or how the input ends
 abbrev pub keeping_view : Keeping → Result (List ℕ) Ending
@@ -41,34 +41,35 @@ kept_at_end (Some line) text = Err (Refused line Bystander)
 abbrev pub kept_of_lines : Setup → List ℕ → Ending → ℕ → List (List ℕ) → Result (List ℕ) Ending
 kept_of_lines s a ending first lines = kept_of_script s a (numbered_from s.desc [] first lines) (script_from s.desc ending [] first lines).ending
 
--- the same with these lines still to come, after feeds of these names
-abbrev pub kept_on_lines : Setup → List ℕ → Option ℕ → List ℕ → List Event → Ending → (names : List (List ℕ)) → ℕ → List (List ℕ) → Result (List ℕ) Ending
-kept_on_lines s a offence text h ending names n lines =
-    kept_on s a offence text h (numbered_from s.desc names n lines) (script_from s.desc ending names n lines).ending
+-- what a run has kept so far: the number of the line whose step offended, if one did, and the text
+pub record Excerpt : Type 0 where
+  pub offence : Option ℕ
+  pub text : List ℕ
+
+abbrev pub excerpt_of : (offence : Option ℕ) (text : List ℕ) → Excerpt
+excerpt_of offence text = record { offence = offence; text = text }
 
 module _ {X : Type 0} {V : X → Type 0} (driver : Plug X V → Driver) where
-  -- the lines `given`, from the number `first` on, were played, and that text was kept of them, or a step offended; the next
-  -- line has number n. This holds whatever lines follow
-  pub record KeepsOn (s : Setup) (a : List ℕ) (x : System X V) (offence : Option ℕ) (text : List ℕ) (first n : ℕ) (given : List (List ℕ)) : Type 0 where
+  -- the lines were played, and that was kept of them. This holds whatever lines follow
+  pub record KeepsOn (s : Setup) (a : List ℕ) (x : System X V) (excerpt : Excerpt) (run : Progress) : Type 0 where
     pub done : List Event
     pub names : List (List ℕ)
     pub stands : StandsFor driver s done x
     pub same : AreSame names (names_by x)
-    pub neutral : offence ≡ None → only_bystanders s a done ≡ true
+    pub neutral : excerpt.offence ≡ None → only_bystanders s a done ≡ true
     pub kept : (ending : Ending) (lines : List (List ℕ))
-        → kept_on_lines s a offence text done ending names n lines ≡ kept_of_lines s a ending first (given ++ lines)
+        → kept_on s a excerpt.offence excerpt.text done (numbered_from s.desc names run.next lines) (script_from s.desc ending names run.next lines).ending
+        ≡ kept_of_lines s a ending run.first (run.given ++ lines)
 
-  -- the step of line n was performed
-  pub record KeepsStep (s : Setup) (a : List ℕ) (h : List Event) (n : ℕ) (t : Step) (offence offence' : Option ℕ) (text text' : List ℕ) (x' : System X V) : Type
-      0 where
-    pub stands : StandsFor driver s (with_step s h t) x'
-    pub neutral : offence' ≡ None → only_bystanders s a (with_step s h t) ≡ true
+  -- the step of that line was performed
+  pub record KeepsStep (s : Setup) (a : List ℕ) (h : List Event) (t : Numbered) (old new : Excerpt) (x' : System X V) : Type 0 where
+    pub stands : StandsFor driver s (with_step s h t.step) x'
+    pub neutral : new.offence ≡ None → only_bystanders s a (with_step s h t.step) ≡ true
     pub kept : (ts : List Numbered) (ending : Ending)
-        → kept_on s a offence text h (record { number = n; step = t } ∷ ts) ending ≡ kept_on s a offence' text' (with_step s h t) ts ending
+        → kept_on s a old.offence old.text h (t ∷ ts) ending ≡ kept_on s a new.offence new.text (with_step s h t.step) ts ending
 
   -- a line was played; or it is refused, and then the input is refused there
-  abbrev pub KeepsLine : Setup → (a : List ℕ) → System X V → (offence : Option ℕ) (text : List ℕ) (first n : ℕ) (given : List (List ℕ)) → (line : List ℕ)
-      → Option Why → Type 0
-  KeepsLine s a x offence text first n given line None = KeepsOn s a x offence text first (n + 1) (given ++ line ∷ [])
-  KeepsLine s a x offence text first n given line (Some why) =
-      (ending : Ending) (lines : List (List ℕ)) → kept_of_lines s a ending first (given ++ line ∷ lines) ≡ Err (Refused n why)
+  abbrev pub KeepsLine : Setup → (a : List ℕ) → System X V → Excerpt → Progress → (line : List ℕ) → Option Why → Type 0
+  KeepsLine s a x excerpt run line None = KeepsOn s a x excerpt (with_line run line)
+  KeepsLine s a x excerpt run line (Some why) =
+      (ending : Ending) (lines : List (List ℕ)) → kept_of_lines s a ending run.first (run.given ++ line ∷ lines) ≡ Err (Refused run.next why)

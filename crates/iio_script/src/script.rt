@@ -17,11 +17,11 @@ ghost use Rattle.iio_script.specs.Step.{feed_of, form_of};
 ghost use Rattle.iio_script.specs.declared.step_word.StepWord.{StepWord};
 ghost use Rattle.iio_text.specs.Words.{IsFirstWord, from_word, is_space, words_of};
 ghost use Rattle.iiod_grammar.specs.Command.{entry_of};
-ghost use Rattle.iio_script.specs.Ends.{HasStatus, Sends, ShowsFaults, Writes};
+ghost use Rattle.iio_script.specs.Ends.{HasStatus, Sends, ShowsFaults, Writes, views_of};
 ghost use Rattle.iio_script.specs.LineReader.{Follows, IsHand, NeedsMore, Shows};
 ghost use Rattle.iio_script.specs.Outline.{FindsSame};
 ghost use Rattle.iio_script.specs.Taken.{Runs, WritesFirst, WritesLines};
-ghost use Rattle.iio_script.specs.Plays.{AnswersScript, EndsScript, EndsSteps, IsOver, IsRefusedWith, Performs, Plays, PlaysLine, TakesFor, WritesText};
+ghost use Rattle.iio_script.specs.Plays.{AnswersScript, EndsScript, EndsSteps, IsOver, IsRefusedWith, Performs, Plays, PlaysLine, TakesFor, WritesText, progress_of, start_of};
 
 use crate::ends::{end_cut, end_refused, end_with, push_end, push_refused, write_out};
 use crate::line_reader::{Found, LineReader};
@@ -56,7 +56,8 @@ fn play_feed(
     requires few { system.old.used + (1 + length words.now) < 2 ^ 56 }
     ensures front { front_of system.new.bench ≡ front_of system.old.bench }
     ensures used { IfOk result (λ _. system.new.used ≤ system.old.used + (1 + length words.now)) }
-    ensures performs { IfOk result (Performs ⟦<Plug as Sensor>⟧.driver (feed_of name.now (from_word words.now)) system.old system.new out.old.items out.new.items) }
+    ensures performs { IfOk result (Performs ⟦<Plug as Sensor>⟧.driver (feed_of name.now (from_word words.now)) system.old system.new out.old.items
+        out.new.items) }
 {
     let name = match read_feed(alloc, bytes, name, words) {
         Ok(name) => name,
@@ -164,8 +165,8 @@ fn play_line(
     ensures front { front_of system.new.bench ≡ front_of system.old.bench }
     ensures used { IfOk result (λ _. system.new.used ≤ system.old.used + 1048577) }
     ensures played { IfOk result (λ ended. (s : Setup) (sent : List ℕ) (first : ℕ) (given : List (List ℕ)) → FindsSame names.now s.desc
-        → Plays ⟦<Plug as Sensor>⟧.driver s system.old (sent ++ out.old.items) first number given
-        → PlaysLine ⟦<Plug as Sensor>⟧.driver s system.new (sent ++ out.new.items) first number given line.now ended) }
+        → Plays ⟦<Plug as Sensor>⟧.driver s system.old (sent ++ out.old.items) (progress_of first number given)
+        → PlaysLine ⟦<Plug as Sensor>⟧.driver s system.new (sent ++ out.new.items) (progress_of first number given) line.now ended) }
     ensures refused { IfOk result (λ ended. IfSome ended (IsRefusedWith number)) }
 {
     let (word, words) = match first_word(line) {
@@ -232,10 +233,10 @@ pub(crate) fn play_steps<S: Source, K: Sink>(
         → FindsSame names.now s.desc
         → Follows input' front lines.old (S.left input.old) → first ≡ length front + 1 → scanned_lines input' ≡ front ++ more
         → (sent : List ℕ) × (IfSome (K.written output.old) (λ written. K.written output.new ≡ Some (written ++ sent)))
-        × EndsSteps s first front (outcome_of_script s (script_from s.desc (last_ending (is_overlong input')) [] first more)) input' result sent out.new.items
-        (S.left input.new)
+        × EndsSteps (start_of s first front) (outcome_of_script s (script_from s.desc (last_ending (is_overlong input')) [] first more)) input' result sent
+        out.new.items (S.left input.new)
         × TakesAtMost input' (input_limit + 1) (S.left input.new)
-        × AnswersScript s first front input' sent (S.left input.old) (S.left input.new) }
+        × AnswersScript (start_of s first front) input' sent (S.left input.old) (S.left input.new) }
     ensures stands { result ≡ Ok Status.Done → (s : Setup) (input' : List ℕ) (front more : List (List ℕ)) → StandsFor ⟦<Plug as Sensor>⟧.driver s [] system.old
         → FindsSame names.now s.desc
         → Follows input' front lines.old (S.left input.old) → scanned_lines input' ≡ front ++ more
@@ -292,14 +293,13 @@ fn play_described<S: Source, K: Sink>(
     requires hand { IsHand lines.old }
     ensures played { (input' : List ℕ) (front more : List (List ℕ)) → Follows input' front lines.old (S.left input.old) → first ≡ length front + 1
         → scanned_lines input' ≡ front ++ more
-        → (text : List ℕ) × WritesText (K.written output.old) (K.written output.new) text
-        × EndsScript (record { desc = desc; drivers = map (λ d. ⟦<Plug as Sensor>⟧.driver (Given d)) drivers.items }) first front
-        (outcome_of_script (record { desc = desc; drivers = map (λ d. ⟦<Plug as Sensor>⟧.driver (Given d)) drivers.items })
-        (script_from desc (last_ending (is_overlong input')) [] first more)) input' result text (S.left input.new)
+        → let s : Setup = record { desc = desc; drivers = map (λ d. ⟦<Plug as Sensor>⟧.driver (Given d)) drivers.items } in
+        (text : List ℕ) × WritesText (K.written output.old) (K.written output.new) text
+        × EndsScript (start_of s first front) (outcome_of_script s (script_from desc (last_ending (is_overlong input')) [] first more)) input' result text
+        (S.left input.new)
         × TakesAtMost input' (input_limit + 1) (S.left input.new)
-        × AnswersScript (record { desc = desc; drivers = map (λ d. ⟦<Plug as Sensor>⟧.driver (Given d)) drivers.items }) first front
-        input' text (S.left input.old) (S.left input.new) }
-    ensures faults { ShowsFaults S.left S.faults K.written K.faults result input.old input.new output.old output.new }
+        × AnswersScript (start_of s first front) input' text (S.left input.old) (S.left input.new) }
+    ensures faults { ShowsFaults (views_of S.left S.faults K.written K.faults) result input.old input.new output.old output.new }
     ensures words { result ≡ Status.Usage → ⊥ }
 {
     let Ok(names) = outline(alloc, &desc) else {
@@ -337,7 +337,7 @@ fn play_input<S: Source, K: Sink>(
         (λ left. Runs (map (λ d. ⟦<Plug as Sensor>⟧.driver (Given d)) drivers.items) left result (S.left input.new) (K.written output.old)
         (K.written output.new)) }
     ensures words { result ≡ Status.Usage → ⊥ }
-    ensures faults { ShowsFaults S.left S.faults K.written K.faults result input.old input.new output.old output.new }
+    ensures faults { ShowsFaults (views_of S.left S.faults K.written K.faults) result input.old input.new output.old output.new }
 {
     let Ok(mut lines) = LineReader::new(alloc) else {
         return Status::Memory;
@@ -378,7 +378,7 @@ pub fn play<S: Source, K: Sink>(
     // However the run ends: before the last piece was taken, all that the whole lines taken until then print had been written.
     ensures answered { IfSome (S.left input.old) (λ left. IfSome (K.written output.old) (λ written.
         WritesFirst (map (λ d. ⟦<Plug as Sensor>⟧.driver (Given d)) drivers.items) left written (S.left input.new) (K.written output.new))) }
-    ensures faults { ShowsFaults S.left S.faults K.written K.faults result input.old input.new output.old output.new }
+    ensures faults { ShowsFaults (views_of S.left S.faults K.written K.faults) result input.old input.new output.old output.new }
 {
     let Ok(count) = u32::try_from(drivers.len()) else {
         return Status::Memory;

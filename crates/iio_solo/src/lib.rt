@@ -6,7 +6,7 @@ ghost use Rattle.iio_base.specs.Faults.{Rose};
 ghost use Rattle.iio_io.specs.Bytes.{TakesAtMost};
 ghost use Rattle.iio_device.specs.declared.plug.Plug.TheVariants.{Given};
 ghost use Rattle.iio_history.specs.Input.{input_limit};
-ghost use Rattle.iio_script.specs.Ends.{HasStatus, Sends, ShowsFaults, Writes};
+ghost use Rattle.iio_script.specs.Ends.{HasStatus, Sends, ShowsFaults, Writes, views_of};
 ghost use Rattle.iio_script.specs.Keeps.{keeping_view};
 ghost use Rattle.iio_script.specs.Plays.{Prints, WritesText};
 ghost use Rattle.iio_worlds.specs.Solo.{between, solo_outcome_of, twice};
@@ -70,7 +70,7 @@ pub fn solo<S: Source, K: Sink>(
     ensures taken { IfSome (S.left input.old) (λ left. TakesAtMost left (input_limit + 1) (S.left input.new)) }
     // Nothing is written before the input ends.
     ensures nothing { result ≡ Status.ReadFault → K.written output.new ≡ K.written output.old }
-    ensures faults { ShowsFaults S.left S.faults K.written K.faults result input.old input.new output.old output.new }
+    ensures faults { ShowsFaults (views_of S.left S.faults K.written K.faults) result input.old input.new output.old output.new }
 {
     solo_law();
     match keep(alloc, name, input, drivers) {

@@ -17,13 +17,13 @@ use Rattle.iio_history.specs.Machine.{line_after, new_line, step}
 use Rattle.iio_history.specs.Played.{state_after, step_lines, steps, texts}
 use Rattle.iio_history.specs.Transcript.{Feed, begun_by, closed_line, events_of_step, line_named, printed, step_text}
 use Rattle.iio_history.specs.Bench.{Every, IsClientOf, front_of, is_in, machine_of, names_of}
-use Rattle.iio_history.specs.BenchLaw.{CanJoinMore, heard}
+use Rattle.iio_history.specs.BenchLaw.{CanJoinMore}
 use Rattle.iio_history.proofs.BenchFeeds.{feeds_are_acts}
 use Rattle.iio_history.proofs.BenchKept.{arrived_is_there, bench_kept, room_after}
 use Rattle.iio_history.proofs.BenchLists.{name_itself, name_same}
 use Rattle.iio_history.proofs.BenchOthers.{arrival_is_nothing, clients_are_kept}
 use Rattle.iio_bench.specs.declared.connection.Connection.{Connection}
-use Rattle.iio_bench.specs.Connection.{HasHeard, IsHearing, IsSessionOf}
+use Rattle.iio_bench.specs.Connection.{Arrival, HasHeard, IsHearing, IsSessionOf, arrival, heard_of, items_of, scanner_of}
 use Rattle.iio_system.specs.System.{IsBare, IsLive, IsServed, Stands}
 use Rattle.iio_system.proofs.EndLaws.{seat_state_after, bytes_agree, has_end}
 use Rattle.iio_bench.specs.Feeding.{IsOwning, is_at_end}
@@ -76,7 +76,7 @@ module _ {S : Type 0} (seen : S → SeatRecord) where
       (x : SessionRecord S)
       → Stands seen s m front told cs → line_named name m.lines ≡ Some l → IsLive seen front m l x → is_in (names_of m) name ≡ true
       → Every (CanJoinMore (suc (length (items_from l.begun bytes)))) m.stations
-      → IsHearing seen s (step s m (Arrived name bytes)) front told name l.begun bytes x
+      → IsHearing seen s (step s m (Arrived name bytes)) front told (arrival name l.begun bytes) x
   is_hearing s m front told cs name bytes l x stands is live there room =
       let own : l.user.who ≡ name = name_same l.user.who name (line_found name m.lines l is) in
       record {
@@ -104,24 +104,21 @@ at_end_not : (x : Scanner) → is_at_end x ≡ false → x ≡ AtEnd → ⊥
 at_end_not x h at = true≢false (sym (ap is_at_end at) ∙ h)
 
 -- the bytes have come: its line, and those of the others
-pub record HasArrived {S : Type 0} (seen : S → SeatRecord) (front : Front) (n : Told) (name : List ℕ) (begun : Scanner) (bytes : List ℕ)
-    (cs : List (Connection S)) : Type 0 where
+pub record HasArrived {S : Type 0} (seen : S → SeatRecord) (front : Front) (n : Told) (a : Arrival) (cs : List (Connection S)) : Type 0 where
   pub line : Line
-  pub is : line_named name n.lines ≡ Some line
+  pub is : line_named a.name n.lines ≡ Some line
   pub live : line.user.ended ≡ false
-  pub more : line.begun ≡ scanner_after begun bytes
-  pub open_before : is_at_end begun ≡ false
-  pub others : OthersAre seen front n name n.lines cs
+  pub more : line.begun ≡ scanner_of a
+  pub open_before : is_at_end a.begun ≡ false
+  pub others : OthersAre seen front n a.name n.lines cs
 
 module _ {S : Type 0} (seen : S → SeatRecord) where
   -- its line after they were heard
-  line_heard : (s : Setup) (front : Front) (n : Told) (name : List ℕ) (begun : Scanner) (bytes : List ℕ) (cs : List (Connection S))
-      → HasArrived seen front n name begun bytes cs
-      → (l : Line) × (line_named name (steps s n (heard name (items_from begun bytes))).lines ≡ Some l) × (l.user.ended ≡ is_at_end (scanner_after begun bytes))
-      × (l.begun ≡ scanner_after begun bytes)
-  line_heard s front n name begun bytes cs h =
-      let o = own_items s n name (items_from begun bytes) h.line h.is in
-      (o.0, o.1, o.2 ∙ ap (λ (b : Bool). b || has_end (items_from begun bytes)) h.live ∙ bytes_agree begun bytes h.open_before, o.3 ∙ h.more)
+  line_heard : (s : Setup) (front : Front) (n : Told) (a : Arrival) (cs : List (Connection S)) → HasArrived seen front n a cs
+      → (l : Line) × (line_named a.name (steps s n (heard_of a)).lines ≡ Some l) × (l.user.ended ≡ is_at_end (scanner_of a)) × (l.begun ≡ scanner_of a)
+  line_heard s front n a cs h =
+      let o = own_items s n a.name (items_of a) h.line h.is in
+      (o.0, o.1, o.2 ∙ ap (λ (b : Bool). b || has_end (items_of a)) h.live ∙ bytes_agree a.begun a.bytes h.open_before, o.3 ∙ h.more)
 
   served_by : (front : Front) (m : Told) (name : List ℕ) (begun : Scanner) (l : Line) (x : SessionRecord S) (e : Bool) → bytes_eq l.user.who name ≡ true
       → is_at_end begun ≡ e → l.user.ended ≡ is_at_end begun → l.begun ≡ begun → IsSessionOf seen m name begun x → IsOwning seen front (cond e None (Some x))
@@ -145,26 +142,24 @@ module _ {S : Type 0} (seen : S → SeatRecord) where
     client = client;
   }
 
-  pub stands_fed : (s : Setup) (n : Told) (front : Front) (told' : Option Machine) (cs : List (Connection S)) (name : List ℕ) (begun : Scanner) (bytes : List ℕ)
-      (x' : SessionRecord S) (i : ℕ) (d : Connection S) (before after : List ℕ)
-      → front ≡ front_of s → HasArrived seen front n name begun bytes cs
-      → HasHeard seen s n told' name begun bytes before after x' → IsOwning seen front (cond (is_at_end (scanner_after begun bytes)) None (Some x'))
-      → (is_at_end (scanner_after begun bytes) ≡ true → HasNothing (steps s n (heard name (items_from begun bytes))) name)
-      → i < length cs → ((k : ℕ) → k < i → bytes_eq (get_or cs k d).name name ≡ false) → bytes_eq (get_or cs i d).name name ≡ true
-      → Stands seen s (steps s n (heard name (items_from begun bytes))) front told'
-      (set cs i (with_session seen (cond (is_at_end (scanner_after begun bytes)) None (Some x')) (get_or cs i d)))
-  stands_fed s n front told' cs name begun bytes x' i d before after same arrived said client gone less apart here =
-      let m2 = steps s n (heard name (items_from begun bytes)) in
-      let line = line_heard s front n name begun bytes cs arrived in
+  pub stands_fed : (s : Setup) (n : Told) (front : Front) (told' : Option Machine) (cs : List (Connection S)) (a : Arrival) (x' : SessionRecord S) (i : ℕ)
+      (d : Connection S)
+      → front ≡ front_of s → HasArrived seen front n a cs → HasHeard seen s n told' a x' → IsOwning seen front (cond (is_at_end (scanner_of a)) None (Some x'))
+      → (is_at_end (scanner_of a) ≡ true → HasNothing (steps s n (heard_of a)) a.name)
+      → i < length cs → ((k : ℕ) → k < i → bytes_eq (get_or cs k d).name a.name ≡ false) → bytes_eq (get_or cs i d).name a.name ≡ true
+      → Stands seen s (steps s n (heard_of a)) front told' (set cs i (with_session seen (cond (is_at_end (scanner_of a)) None (Some x')) (get_or cs i d)))
+  stands_fed s n front told' cs a x' i d same arrived said client gone less apart here =
+      let m2 = steps s n (heard_of a) in
+      let line = line_heard s front n a cs arrived in
       record {
         front_is = same;
         told_is = said.told_is;
         bench = said.bench;
         lines =
-            rejoined seen front m2 name (cond (is_at_end (scanner_after begun bytes)) None (Some x')) i d m2.lines cs line.0 said.bench.names
-            (others_after_items seen s n front name (items_from begun bytes) cs arrived.others)
+            rejoined seen front m2 a.name (cond (is_at_end (scanner_of a)) None (Some x')) i d m2.lines cs line.0 said.bench.names
+            (others_after_items seen s n front a.name (items_of a) cs arrived.others)
             line.1 less apart here
-            (served_by front m2 name (scanner_after begun bytes) line.0 x' (is_at_end (scanner_after begun bytes)) (line_found name m2.lines line.0 line.1) refl
+            (served_by front m2 a.name (scanner_of a) line.0 x' (is_at_end (scanner_of a)) (line_found a.name m2.lines line.0 line.1) refl
             line.2 line.3 said.session client gone);
       }
 
@@ -172,7 +167,7 @@ module _ {S : Type 0} (seen : S → SeatRecord) where
   pub has_arrived : (s : Setup) (m : Told) (front : Front) (told : Option Machine) (cs : List (Connection S)) (name bytes : List ℕ) (l : Line)
       (x : SessionRecord S)
       → Stands seen s m front told cs → line_named name m.lines ≡ Some l → IsLive seen front m l x
-      → HasArrived seen front (step s m (Arrived name bytes)) name l.begun bytes cs
+      → HasArrived seen front (step s m (Arrived name bytes)) (arrival name l.begun bytes) cs
   has_arrived s m front told cs name bytes l x stands is live = record {
     line = line_after s (registry_of m) (Arrived name bytes) l;
     is = arrived_own s m name bytes l is;
@@ -189,38 +184,37 @@ module _ {S : Type 0} (seen : S → SeatRecord) where
 
 module _ {S : Type 0} (seen : S → SeatRecord) where
   -- after it has ended it has nothing
-  pub has_nothing : (s : Setup) (n : Told) (front : Front) (told : Option Machine) (name : List ℕ) (begun : Scanner) (bytes : List ℕ) (x : SessionRecord S)
-      → IsHearing seen s n front told name begun bytes x → is_at_end begun ≡ false → is_at_end (scanner_after begun bytes) ≡ true
-      → HasNothing (steps s n (heard name (items_from begun bytes))) name
-  has_nothing s n front told name begun bytes x h before after = (
-    client_after (front_of s) (machine_of n) (client_of seen x.client) (items_from begun bytes),
-    seat_state_after (front_of s) (machine_of n) (client_of seen x.client) begun bytes before after,
-    (feeds_are_acts s n name (client_of seen x.client) (items_from begun bytes) h.bench h.there h.session.client h.room).client_then,
+  pub has_nothing : (s : Setup) (n : Told) (front : Front) (told : Option Machine) (a : Arrival) (x : SessionRecord S) → IsHearing seen s n front told a x
+      → is_at_end a.begun ≡ false → is_at_end (scanner_of a) ≡ true → HasNothing (steps s n (heard_of a)) a.name
+  has_nothing s n front told a x h before after = (
+    client_after (front_of s) (machine_of n) (client_of seen x.client) (items_of a),
+    seat_state_after (front_of s) (machine_of n) (client_of seen x.client) a.begun a.bytes before after,
+    (feeds_are_acts s n a.name (client_of seen x.client) (items_of a) h.bench h.there h.session.client h.room).client_then,
   )
 
 -- ---- what is printed
 
 -- what the connection had begun before its bytes came
-module _ (s : Setup) (m : Told) (name bytes : List ℕ) (begun : Scanner) (live : has_ended name (registry_of m).users ≡ false)
-    (was : begun_by name m.lines ≡ begun) where
-  events_are : events_of_step m (Feed name bytes) ≡ Arrived name bytes ∷ heard name (items_from begun bytes)
-  events_are =
-      ap (λ (b : Bool). cond b [] (Arrived name bytes ∷ map (λ item. Heard name item) (items_from (begun_by name m.lines) bytes))) live
-      ∙ ap (λ (x : Scanner). Arrived name bytes ∷ map (λ item. Heard name item) (items_from x bytes)) was
+module _ (s : Setup) (m : Told) (a : Arrival) (live : has_ended a.name (registry_of m).users ≡ false) (was : begun_by a.name m.lines ≡ a.begun) where
+  abbrev arrived : Told
+  arrived = step s m (Arrived a.name a.bytes)
 
-  pub fed_state : state_after s m (Feed name bytes) ≡ steps s (step s m (Arrived name bytes)) (heard name (items_from begun bytes))
+  events_are : events_of_step m (Feed a.name a.bytes) ≡ Arrived a.name a.bytes ∷ heard_of a
+  events_are =
+      ap (λ (b : Bool). cond b [] (Arrived a.name a.bytes ∷ map (λ item. Heard a.name item) (items_from (begun_by a.name m.lines) a.bytes))) live
+      ∙ ap (λ (x : Scanner). Arrived a.name a.bytes ∷ map (λ item. Heard a.name item) (items_from x a.bytes)) was
+
+  pub fed_state : state_after s m (Feed a.name a.bytes) ≡ steps s arrived (heard_of a)
   fed_state = ap (λ (es : List Event). steps s m es) events_are
 
   -- whether it has then ended or not
-  pub fed_lines : (e : Bool) → has_ended name (registry_of (steps s (step s m (Arrived name bytes)) (heard name (items_from begun bytes)))).users ≡ e
-      → step_lines s m (Feed name bytes) ≡ printed (name ∷ quoted (texts s (step s m (Arrived name bytes)) (heard name (items_from begun bytes))) ∷ [])
-      ++ cond e (closed_line name) []
+  pub fed_lines : (e : Bool) → has_ended a.name (registry_of (steps s arrived (heard_of a))).users ≡ e
+      → step_lines s m (Feed a.name a.bytes) ≡ printed (a.name ∷ quoted (texts s arrived (heard_of a)) ∷ []) ++ cond e (closed_line a.name) []
   fed_lines e ended =
-      ap (λ (es : List Event). step_text m (steps s m es) (Feed name bytes) (texts s m es)) events_are
-      ∙ ap (λ (b : Bool). cond b [] (printed (name ∷ quoted (texts s (step s m (Arrived name bytes)) (heard name (items_from begun bytes))) ∷ []))
-      ++ cond (has_ended name (registry_of (steps s (step s m (Arrived name bytes)) (heard name (items_from begun bytes)))).users) (closed_line name) []) live
-      ∙ ap (λ (b : Bool). printed (name ∷ quoted (texts s (step s m (Arrived name bytes)) (heard name (items_from begun bytes))) ∷ [])
-      ++ cond b (closed_line name) []) ended
+      ap (λ (es : List Event). step_text m (steps s m es) (Feed a.name a.bytes) (texts s m es)) events_are
+      ∙ ap (λ (b : Bool). cond b [] (printed (a.name ∷ quoted (texts s arrived (heard_of a)) ∷ []))
+      ++ cond (has_ended a.name (registry_of (steps s arrived (heard_of a))).users) (closed_line a.name) []) live
+      ∙ ap (λ (b : Bool). printed (a.name ∷ quoted (texts s arrived (heard_of a)) ∷ []) ++ cond b (closed_line a.name) []) ended
 
 pub live_user : (m : Told) (name : List ℕ) (l : Line) (e : Bool) → line_named name m.lines ≡ Some l → l.user.ended ≡ e
     → has_ended name (registry_of m).users ≡ e
@@ -231,9 +225,6 @@ begun_line m name l is = ap (λ (o : Option Line). elim o [ None ↦ InLine [] |
 
 -- whether it has then ended
 module _ {S : Type 0} (seen : S → SeatRecord) where
-  pub ended_heard : (s : Setup) (front : Front) (n : Told) (name : List ℕ) (begun : Scanner) (bytes : List ℕ) (cs : List (Connection S))
-      → HasArrived seen front n name begun bytes cs
-      → has_ended name (registry_of (steps s n (heard name (items_from begun bytes)))).users ≡ is_at_end (scanner_after begun bytes)
-  ended_heard s front n name begun bytes cs h =
-      let l = line_heard seen s front n name begun bytes cs h in
-      live_user (steps s n (heard name (items_from begun bytes))) name l.0 _ l.1 l.2
+  pub ended_heard : (s : Setup) (front : Front) (n : Told) (a : Arrival) (cs : List (Connection S)) → HasArrived seen front n a cs
+      → has_ended a.name (registry_of (steps s n (heard_of a))).users ≡ is_at_end (scanner_of a)
+  ended_heard s front n a cs h = let l = line_heard seen s front n a cs h in live_user (steps s n (heard_of a)) a.name l.0 _ l.1 l.2

@@ -13,12 +13,12 @@ use Rattle.iio_core.specs.Attached.{Attachment, entries_from, is_attached}
 use Rattle.iio_core.specs.Front.{Front, device_name, kind_at, trigger_name}
 use Rattle.iio_core.specs.Machine.{Machine, station_at, attachment_of}
 use Rattle.iio_core.specs.Moves.{entry_answer, machine_after_handling, entry_in, machine_after_entry, machine_after_poll, polled_answer, taken_off}
-use Rattle.iio_history.specs.Event.{Handled, Polled}
+use Rattle.iio_history.specs.Event.{Event, Handled, Polled}
 use Rattle.iio_history.specs.Registry.{Setup, attachments_of}
 use Rattle.iio_core.specs.Trigger.{Trigger, entries_at, entry_of, without_entry, trigger_after_handling, trigger_after_poll, first_due, missed_at, poll_answer}
 use Rattle.iio_history.specs.Told.{Told, registry_of}
 use Rattle.iio_history.specs.Machine.{step}
-use Rattle.iio_history.specs.Played.{state_after, step_lines, steps, texts}
+use Rattle.iio_history.specs.Played.{steps, texts}
 use Rattle.iio_history.specs.Transcript.{Fire, event_text, poll_entries, printed}
 use Rattle.iio_history.specs.Bench.{machine_of}
 use Rattle.iio_history.proofs.BenchMoves.{poll_is}
@@ -32,7 +32,7 @@ use Rattle.iio_history.specs.Words.{became_word, polled_words}
 use Rattle.iio_system.specs.Moves.{CanGoOn, HandlesAll, HandlesOne, InOrder, Plays, handling_of, handlings}
 use Rattle.iio_kinds.specs.Places.{trigger_of}
 use Rattle.iio_bench.specs.Seat.{seen_of}
-use Rattle.iio_system.specs.Standing.{CanCapture, Holds, RiseBy}
+use Rattle.iio_system.specs.Standing.{CanCapture, Holds, IsMade, RiseBy, StepState, step_state}
 use Rattle.iio_kinds.specs.Station.{any_front, any_station}
 use Rattle.iio_system.specs.System.{AreLines}
 use Rattle.iio_bench.proofs.ListLemmas.{length_map_is, filter_none}
@@ -49,6 +49,10 @@ handled_none : (dev trigger : ℕ) (ts : List Trigger) → entry_of dev (entries
 handled_none dev trigger [] none = refl
 handled_none dev zero (t ∷ ts) none = ap (λ (es : List Handed). (let x : Trigger = record t { entries = es } in x) ∷ ts) (without_none dev t.entries none)
 handled_none dev (suc trigger) (t ∷ ts) none = ap (λ (xs : List Trigger). t ∷ xs) (handled_none dev trigger ts none)
+
+-- the handling of an entry, or of none
+abbrev event_of : (trigger dev : ℕ) → Option Handed → List Event
+event_of trigger dev o = elim o [ None ↦ [] | Some e ↦ Handled trigger dev ∷ [] ]
 
 module _ {X : Type 0} {V : X → Type 0} (driver : Plug X V → Driver) where
   module _ (trigger dev : ℕ) (b b' : Bench X V) (cs : List (Connection Seat)) (less : dev < length (bench_front b).devices)
@@ -80,12 +84,11 @@ module _ {X : Type 0} {V : X → Type 0} (driver : Plug X V → Driver) where
 
     pub plays_none : (before : List ℕ)
         → None ≡ entry_answer (kind_at (bench_front b) dev) (entry_in trigger dev (bench_machine driver b)) (station_at (bench_machine driver b) dev)
-        → Plays driver (handling_of trigger dev) s m trigger b' cs before before
+        → Plays driver s m (handling_of trigger dev (entries_at m.triggers trigger)) (step_state b cs before) (step_state b' cs before)
     plays_none before answered = by (entry_of dev (entries_at m.triggers trigger)) refl
       where
         by : (o : Option Handed) → entry_of dev (entries_at m.triggers trigger) ≡ o
-            → (before ≡ before ++ texts s m (elim o [ None ↦ [] | Some e ↦ Handled trigger dev ∷ [] ]))
-            × Holds driver s (steps s m (elim o [ None ↦ [] | Some e ↦ Handled trigger dev ∷ [] ])) b' cs
+            → Plays driver s m (event_of trigger dev o) (step_state b cs before) (step_state b' cs before)
         by None is = (sym (append-nil before), stays is)
         by (Some e) is = absurd (let h = answered ∙ answer_own (Some e) is in cc)
 
@@ -94,12 +97,11 @@ module _ {X : Type 0} {V : X → Type 0} (driver : Plug X V → Driver) where
         → Some answer ≡ entry_answer (kind_at (bench_front b) dev) (entry_in trigger dev (bench_machine driver b)) (station_at (bench_machine driver b) dev)
         → IsRoom (Some answer) (station_at (bench_machine driver b) dev).members room
         → after ≡ before ++ printed (codes "handle" ∷ name ∷ device ∷ became_word (Some answer) room ∷ [])
-        → Plays driver (handling_of trigger dev) s m trigger b' cs before after
+        → Plays driver s m (handling_of trigger dev (entries_at m.triggers trigger)) (step_state b cs before) (step_state b' cs after)
     plays_some before after name device room answer named called answered roomy line = by (entry_of dev (entries_at m.triggers trigger)) refl
       where
         by : (o : Option Handed) → entry_of dev (entries_at m.triggers trigger) ≡ o
-            → (after ≡ before ++ texts s m (elim o [ None ↦ [] | Some e ↦ Handled trigger dev ∷ [] ]))
-            × Holds driver s (steps s m (elim o [ None ↦ [] | Some e ↦ Handled trigger dev ∷ [] ])) b' cs
+            → Plays driver s m (event_of trigger dev o) (step_state b cs before) (step_state b' cs after)
         by None is = absurd (let h = answered ∙ answer_own None is in cc)
         by (Some e) is = (
           handle_line driver trigger dev b b' cs less front told s m h before after name device room (Some answer) named called answered roomy line,
@@ -152,57 +154,53 @@ first_below dev low high (e ∷ es) first order =
 
 module _ {X : Type 0} {V : X → Type 0} (driver : Plug X V → Driver) where
   -- some handlings are done; those of the entries that are left, for devices from `low` on, are the rest
-  pub record IsLeft (s : Setup) (m : Told) (trigger low high : ℕ) (b : Bench X V) (cs : List (Connection Seat)) (before now : List ℕ) : Type 0 where
+  pub record IsLeft (s : Setup) (m : Told) (trigger low high : ℕ) (x y : StepState X V) : Type 0 where
     pub state : Told
     pub entries : List Handed
     pub there : entries_at state.triggers trigger ≡ entries
-    pub holds : Holds driver s state b cs
+    pub holds : Holds driver s state y.bench y.connections
     pub order : InOrder low high entries
-    pub text : before ++ texts s m (handlings trigger (entries_at m.triggers trigger)) ≡ now ++ texts s state (handlings trigger entries)
+    pub text : x.printed ++ texts s m (handlings trigger (entries_at m.triggers trigger)) ≡ y.printed ++ texts s state (handlings trigger entries)
     pub last : steps s m (handlings trigger (entries_at m.triggers trigger)) ≡ steps s state (handlings trigger entries)
 
-  module _ (s : Setup) (m : Told) (trigger low high : ℕ) (b : Bench X V) (cs : List (Connection Seat)) (before now : List ℕ)
-      (x : IsLeft s m trigger low high b cs before now) where
-    left_nothing : x.entries ≡ [] → Plays driver (handlings trigger) s m trigger b cs before now
+  module _ (s : Setup) (m : Told) (trigger low high : ℕ) (x y : StepState X V) (left : IsLeft s m trigger low high x y) where
+    left_nothing : left.entries ≡ [] → Plays driver s m (handlings trigger (entries_at m.triggers trigger)) x y
     left_nothing none = (
-      sym (x.text ∙ ap (λ (es : List Handed). now ++ texts s x.state (handlings trigger es)) none ∙ append-nil now),
-      subst (λ (n : Told). Holds driver s n b cs) (sym (x.last ∙ ap (λ (es : List Handed). steps s x.state (handlings trigger es)) none)) x.holds,
+      sym (left.text ∙ ap (λ (es : List Handed). y.printed ++ texts s left.state (handlings trigger es)) none ∙ append-nil y.printed),
+      subst (λ (n : Told). Holds driver s n y.bench y.connections)
+          (sym (left.last ∙ ap (λ (es : List Handed). steps s left.state (handlings trigger es)) none)) left.holds,
     )
 
     -- the first entry at the bench's trigger is the first one that is left
-    first_left : first_due (entries_at (triggers_of b) trigger) ≡ first_due x.entries
+    first_left : first_due (entries_at (triggers_of y.bench) trigger) ≡ first_due left.entries
     first_left =
-        ap (λ (y : Machine). first_due (entries_at y.triggers trigger)) (machine_told driver s x.state b cs x.holds) ∙ ap first_due x.there
+        ap (λ (z : Machine). first_due (entries_at z.triggers trigger)) (machine_told driver s left.state y.bench y.connections left.holds)
+        ∙ ap first_due left.there
 
     -- as many turns as there are devices leave none
-    pub left_last : high ≤ low → Plays driver (handlings trigger) s m trigger b cs before now
-    left_last past = left_nothing (order_none low high x.entries past x.order)
+    pub left_last : high ≤ low → Plays driver s m (handlings trigger (entries_at m.triggers trigger)) x y
+    left_last past = left_nothing (order_none low high left.entries past left.order)
 
-    pub left_none : first_due (entries_at (triggers_of b) trigger) ≡ None → Plays driver (handlings trigger) s m trigger b cs before now
-    left_none none = left_nothing (no_first x.entries (sym first_left ∙ none))
+    pub left_none : first_due (entries_at (triggers_of y.bench) trigger) ≡ None → Plays driver s m (handlings trigger (entries_at m.triggers trigger)) x y
+    left_none none = left_nothing (no_first left.entries (sym first_left ∙ none))
 
     -- there is no entry for a device that isn't there
-    pub left_past : (dev : ℕ) → first_due (entries_at (triggers_of b) trigger) ≡ Some dev → high ≤ dev
-        → Plays driver (handlings trigger) s m trigger b cs before now
-    left_past dev first past = let h = first_below dev low high x.entries (sym first_left ∙ first) x.order in absurd (omega (arith, h, past))
+    pub left_past : (dev : ℕ) → first_due (entries_at (triggers_of y.bench) trigger) ≡ Some dev → high ≤ dev
+        → Plays driver s m (handlings trigger (entries_at m.triggers trigger)) x y
+    left_past dev first past = let h = first_below dev low high left.entries (sym first_left ∙ first) left.order in absurd (omega (arith, h, past))
 
-  -- what the handling of an entry makes, or of none
-  abbrev Took : Setup → Told → (trigger dev : ℕ) → Bench X V → List (Connection Seat) → (before after : List ℕ) → Option Handed → Type 0
-  Took s n trigger dev b' cs before after o =
-      (after ≡ before ++ texts s n (elim o [ None ↦ [] | Some e ↦ Handled trigger dev ∷ [] ]))
-      × Holds driver s (steps s n (elim o [ None ↦ [] | Some e ↦ Handled trigger dev ∷ [] ])) b' cs
-
-  module _ (s : Setup) (m n : Told) (trigger dev low high : ℕ) (b' : Bench X V) (cs : List (Connection Seat)) (before now after : List ℕ) where
+  module _ (s : Setup) (m n : Told) (trigger dev low high : ℕ) (x y z : StepState X V) where
     next_by : (es : List Handed) → entries_at n.triggers trigger ≡ es → first_due es ≡ Some dev → InOrder low high es
-        → before ++ texts s m (handlings trigger (entries_at m.triggers trigger)) ≡ now ++ texts s n (handlings trigger es)
+        → x.printed ++ texts s m (handlings trigger (entries_at m.triggers trigger)) ≡ y.printed ++ texts s n (handlings trigger es)
         → steps s m (handlings trigger (entries_at m.triggers trigger)) ≡ steps s n (handlings trigger es)
-        → Took s n trigger dev b' cs now after (entry_of dev es) → IsLeft s m trigger (low + 1) high b' cs before after
-    next_by [] at first order text last took = absurd (cc)
-    next_by (e ∷ es) at first order text last took =
+        → Plays driver s n (event_of trigger dev (entry_of dev es)) y z → IsLeft s m trigger (low + 1) high x z
+    next_by [] at first order text last played = absurd (cc)
+    next_by (e ∷ es) at first order text last played =
         let same : e.dev ≡ dev = cc in
         let own : (e.dev == dev) ≡ true = grind (arith, nat_tests) in
         let from = order.0 in
-        let took' = subst (λ (o : Option Handed). Took s n trigger dev b' cs now after o) (ap (λ (c : Bool). cond c (Some e) (entry_of dev es)) own) took in
+        let one =
+        subst (λ (o : Option Handed). Plays driver s n (event_of trigger dev o) y z) (ap (λ (c : Bool). cond c (Some e) (entry_of dev es)) own) played in
         let ev = event_text s n (Handled trigger dev) in
         record {
           state = step s n (Handled trigger dev);
@@ -211,25 +209,23 @@ module _ {X : Type 0} {V : X → Type 0} (driver : Plug X V → Driver) where
               entries_placed (trigger_after_handling dev) (without_entry dev) (λ t. refl) trigger n.triggers (λ past. refl)
               ∙ ap (λ (xs : List Handed). without_entry dev xs) at ∙ ap (λ (c : Bool). cond (not c) (e ∷ without_entry dev es) (without_entry dev es)) own
               ∙ without_none dev es (entry_none dev (suc e.dev) high es (omega (arith, same)) order.1);
-          holds = took'.1;
+          holds = one.1;
           order = order_from (low + 1) (suc e.dev) high es (omega (arith, from)) order.1;
           text =
-              text ∙ ap (λ (d : ℕ). now ++ (event_text s n (Handled trigger d) ++ texts s (step s n (Handled trigger d)) (handlings trigger es))) same
-              ∙ sym (append_assoc now ev (texts s (step s n (Handled trigger dev)) (handlings trigger es)))
+              text ∙ ap (λ (d : ℕ). y.printed ++ (event_text s n (Handled trigger d) ++ texts s (step s n (Handled trigger d)) (handlings trigger es))) same
+              ∙ sym (append_assoc y.printed ev (texts s (step s n (Handled trigger dev)) (handlings trigger es)))
               ∙ ap (λ (t : List ℕ). t ++ texts s (step s n (Handled trigger dev)) (handlings trigger es))
-              (ap (λ (t : List ℕ). now ++ t) (sym (append-nil ev)) ∙ sym took'.0);
+              (ap (λ (t : List ℕ). y.printed ++ t) (sym (append-nil ev)) ∙ sym one.0);
           last = last ∙ ap (λ (d : ℕ). steps s (step s n (Handled trigger d)) (handlings trigger es)) same;
         }
 
   -- the handling of the first entry that is left
-  pub left_next : (s : Setup) (m : Told) (trigger dev low high : ℕ) (b b' : Bench X V) (cs : List (Connection Seat)) (before now after : List ℕ)
-      → IsLeft s m trigger low high b cs before now
-      → first_due (entries_at (triggers_of b) trigger) ≡ Some dev → HandlesOne driver trigger dev b b' cs now after
-      → IsLeft s m trigger (low + 1) high b' cs before after
-  left_next s m trigger dev low high b b' cs before now after x first one =
-      next_by s m x.state trigger dev low high b' cs before now after x.entries x.there (sym (first_left s m trigger low high b cs before now x) ∙ first)
-      x.order x.text x.last
-      (subst (λ (es : List Handed). Took s x.state trigger dev b' cs now after (entry_of dev es)) x.there (one s x.state x.holds))
+  pub left_next : (s : Setup) (m : Told) (trigger dev low high : ℕ) (x y z : StepState X V) → IsLeft s m trigger low high x y
+      → first_due (entries_at (triggers_of y.bench) trigger) ≡ Some dev → HandlesOne driver trigger dev y z → IsLeft s m trigger (low + 1) high x z
+  left_next s m trigger dev low high x y z left first one =
+      next_by s m left.state trigger dev low high x y z left.entries left.there (sym (first_left s m trigger low high x y left) ∙ first)
+      left.order left.text left.last
+      (subst (λ (es : List Handed). Plays driver s left.state (event_of trigger dev (entry_of dev es)) y z) left.there (one s left.state left.holds))
 
 -- ---- captures
 
@@ -276,12 +272,11 @@ module _ {X : Type 0} {V : X → Type 0} (driver : Plug X V → Driver) where
     pub fire_missed : (before after name : List ℕ) (answer : Answer) (n : ℕ) → answer ≡ Missed n → name ≡ trigger_name (bench_front b') trigger
         → answer ≡ polled_answer trigger t (bench_machine driver b)
         → after ≡ before ++ printed (codes "poll" ∷ name ∷ polled_words answer)
-        → (after ≡ before ++ step_lines s m (Fire trigger t)) × Holds driver s (state_after s m (Fire trigger t)) b' cs
+        → IsMade driver s m (Fire trigger t) (step_state b cs before) (step_state b' cs after)
     fire_missed before after name answer n is named answered line =
         let busy = misses _ (entries_at m.triggers trigger) n (missed_at m.triggers trigger) (sym is ∙ poll_told answer answered) in
         let none : poll_entries m trigger t ≡ [] = ap (λ (c : Bool). cond c made []) busy in
-        subst (λ (es : List Handed). (after ≡ before ++ texts s m (Polled trigger t ∷ handlings trigger es))
-        × Holds driver s (steps s m (Polled trigger t ∷ handlings trigger es)) b' cs) (sym none) (
+        subst (λ (es : List Handed). Plays driver s m (Polled trigger t ∷ handlings trigger es) (step_state b cs before) (step_state b' cs after)) (sym none) (
           poll_line driver trigger t b b' cs front told s m h before after name answer named answered line,
           poll_holds driver trigger t b b' cs front told s m h,
         )
@@ -311,8 +306,8 @@ module _ {X : Type 0} {V : X → Type 0} (driver : Plug X V → Driver) where
           → name ≡ trigger_name (bench_front b') trigger
           → answer ≡ polled_answer trigger t (bench_machine driver b)
           → mid ≡ before ++ printed (codes "poll" ∷ name ∷ polled_words answer)
-          → HandlesAll driver trigger (length (bench_front b').devices) b' b'' cs mid after
-          → (after ≡ before ++ step_lines s m (Fire trigger t)) × Holds driver s (state_after s m (Fire trigger t)) b'' cs
+          → HandlesAll driver trigger (length (bench_front b').devices) (step_state b' cs mid) (step_state b'' cs after)
+          → IsMade driver s m (Fire trigger t) (step_state b cs before) (step_state b'' cs after)
       fire_accepted b'' before mid after name answer n is named answered line all =
           let idle = accepts _ (entries_at m.triggers trigger) n (missed_at m.triggers trigger) (sym is ∙ poll_told answer answered) in
           let entries : entries_at (step s m (Polled trigger t)).triggers trigger ≡ made
@@ -322,8 +317,8 @@ module _ {X : Type 0} {V : X → Type 0} (driver : Plug X V → Driver) where
           let ev = event_text s m (Polled trigger t) in
           let rest = texts s (step s m (Polled trigger t)) (handlings trigger (poll_entries m trigger t)) in
           let played =
-          subst (λ (es : List Handed). (after ≡ mid ++ texts s (step s m (Polled trigger t)) (handlings trigger es))
-          × Holds driver s (steps s (step s m (Polled trigger t)) (handlings trigger es)) b'' cs) polled
+          subst (λ (es : List Handed). Plays driver s (step s m (Polled trigger t)) (handlings trigger es) (step_state b' cs mid) (step_state b'' cs after))
+          polled
           (all s (step s m (Polled trigger t)) (poll_holds driver trigger t b b' cs front told s m h)
           (subst (λ (es : List Handed). InOrder 0 (length (bench_front b').devices) es) (sym entries) in_order)) in (
             played.0

@@ -23,6 +23,7 @@ use Rattle.iio_system.specs.declared.step.Step.{Step as CodeStep}
 use Rattle.iio_system.specs.declared.step.Step.TheVariants as code
 use Rattle.iio_system.specs.declared.system.System.{System}
 use Rattle.iio_bench.specs.Bench.{front_of, machine_of}
+use Rattle.iio_bench.specs.Feeding.{feed_state}
 use Rattle.iio_bench.specs.Guard.{MeetsBeside, client_named, clients_besides}
 use Rattle.iio_bench.specs.Seat.{seen_of}
 use Rattle.iio_system.specs.Standing.{Holds, IsNew, Meets, MeetsFeed, MeetsStep, StandsFor}
@@ -41,22 +42,24 @@ module _ {X : Type 0} {V : X → Type 0} (driver : Plug X V → Driver) where
   -- ---- a feed
 
   -- of a connection that is there
-  meets_there : ClientsDecide → (b : Bench X V) (cs others : List (Connection Seat)) (i : ℕ) (c : Connection Seat) (a name bytes : List ℕ) (r : Result Bool Mem)
-      → position (is_named name) cs ≡ Some i → c ≡ get_or cs i c
+  meets_there : ClientsDecide → (b : Bench X V) (cs others : List (Connection Seat)) (i : ℕ) (c : Connection Seat) (a name bytes text : List ℕ)
+      (r : Result Bool Mem)
+      → position (is_named name) cs ≡ Some i → c ≡ get_or cs i c → c.name ≡ name
       → (bytes_eq name a ≡ false → client_named seen_of a others ≡ client_named seen_of a cs)
       → (bytes_eq name a ≡ true → clients_besides seen_of a others ≡ clients_besides seen_of a cs)
-      → IfOk r (MeetsBeside seen_of a name bytes (front_of b) (Some (machine_of driver b)) c.session others)
-      → IfOk r (MeetsFeed driver a name bytes b cs)
-  meets_there decides b cs others i c a name bytes (Err e) at is own besides fed = tt
-  meets_there decides b cs others i c a name bytes (Ok meets) at is own besides fed = λ s m room holds.
+      → IfOk r (MeetsBeside seen_of a bytes (feed_state driver b c text) others) → IfOk r (MeetsFeed driver a name bytes b cs)
+  meets_there decides b cs others i c a name bytes text (Err e) at is called own besides fed = tt
+  meets_there decides b cs others i c a name bytes text (Ok meets) at is called own besides fed = λ s m room holds.
       let place = position-Some (is_named name) cs i c at in
       let line = line_at name seen_of (front_of b) m m.lines cs i c holds.lines place.0 place.1 place.2 in
       by s m room holds line.0 line.1 (get_or cs i c).session line.2
-      (subst (λ (e : Connection Seat). MeetsBeside seen_of a name bytes (front_of b) (Some (machine_of driver b)) e.session others meets) is fed)
+      (subst (λ (e : Connection Seat). MeetsBeside seen_of a bytes (feed_state driver b (record { name = name; session = e.session }) text) others meets) is
+      (subst (λ (n : List ℕ). MeetsBeside seen_of a bytes (feed_state driver b (record { name = n; session = c.session }) text) others meets) called fed))
     where
       by : (s : Setup) (m : Told) → Every (CanJoinMore (suc (length bytes))) m.stations → Holds driver s m b cs → (l : Line) → line_named name m.lines ≡ Some l
           → (o : Option (SessionRecord Seat)) → IsServed seen_of (front_of b) m l o
-          → MeetsBeside seen_of a name bytes (front_of b) (Some (machine_of driver b)) o others meets → meets ≡ step_meets s a m (Feed name bytes)
+          → MeetsBeside seen_of a bytes (feed_state driver b (record { name = name; session = o }) text) others meets
+          → meets ≡ step_meets s a m (Feed name bytes)
       by s m room holds l here None served fed = fed ∙ meets_ended seen_of s m a name bytes (live_user m name l true here served.ended)
       by s m room holds l here (Some x) served fed =
           meets_those seen_of decides s m (front_of b) (Some (machine_of driver b)) cs others a name bytes l.begun meets holds
@@ -68,31 +71,30 @@ module _ {X : Type 0} {V : X → Type 0} (driver : Plug X V → Driver) where
   -- the same, if the others are those before it and those after it: one of the watched name counts as nobody, and one of
   -- another name isn't the watched one
   pub meets_between : ClientsDecide
-      → (b : Bench X V) (cs before : List (Connection Seat)) (c : Connection Seat) (after : List (Connection Seat)) (a name bytes : List ℕ)
+      → (b : Bench X V) (cs before : List (Connection Seat)) (c : Connection Seat) (after : List (Connection Seat)) (a name bytes text : List ℕ)
       (r : Result Bool Mem)
       → StandsAt name cs before c after
-      → IfOk r (MeetsBeside seen_of a c.name bytes (front_of b) (Some (machine_of driver b)) c.session (before ++ after))
+      → IfOk r (MeetsBeside seen_of a bytes (feed_state driver b c text) (before ++ after))
       → IfOk r (MeetsFeed driver a name bytes b cs)
-  meets_between decides b cs before c after a name bytes r at fed =
+  meets_between decides b cs before c after a name bytes text r at fed =
       let own : c.name ≡ name = named_there name cs before c after at in
       let called : (e : Bool) → bytes_eq name a ≡ e → bytes_eq c.name a ≡ e = λ e h. ap (λ (w : List ℕ). bytes_eq w a) own ∙ h in
-      meets_there decides b cs (before ++ after) (length before) c a name bytes r (sym at.place) (there name cs before c after at)
+      meets_there decides b cs (before ++ after) (length before) c a name bytes text r (sym at.place) (there name cs before c after at) own
       (λ other. named_between seen_of a before after c (called false other) ∙ ap (λ (xs : List (Connection Seat)). client_named seen_of a xs) (sym at.parts))
       (λ mine. besides_between seen_of a before after c (called true mine) ∙ ap (λ (xs : List (Connection Seat)). clients_besides seen_of a xs) (sym at.parts))
-      (subst (λ (n : List ℕ). IfOk r (MeetsBeside seen_of a n bytes (front_of b) (Some (machine_of driver b)) c.session (before ++ after))) own fed)
+      fed
 
   -- of a connection that is new
-  pub meets_new : ClientsDecide → (b : Bench X V) (cs : List (Connection Seat)) (c : Connection Seat) (a name bytes : List ℕ) (r : Result Bool Mem)
+  pub meets_new : ClientsDecide → (b : Bench X V) (cs : List (Connection Seat)) (c : Connection Seat) (a name bytes text : List ℕ) (r : Result Bool Mem)
       → position (is_named name) cs ≡ None → IsNew name (length cs) c
-      → IfOk r (MeetsBeside seen_of a c.name bytes (front_of b) (Some (machine_of driver b)) c.session cs)
-      → IfOk r (MeetsFeed driver a name bytes b cs)
-  meets_new decides b cs c a name bytes (Err e) at is fed = tt
-  meets_new decides b cs c a name bytes (Ok meets) at is fed = λ s m room holds.
+      → IfOk r (MeetsBeside seen_of a bytes (feed_state driver b c text) cs) → IfOk r (MeetsFeed driver a name bytes b cs)
+  meets_new decides b cs c a name bytes text (Err e) at is fed = tt
+  meets_new decides b cs c a name bytes text (Ok meets) at is fed = λ s m room holds.
       let nobody = no_line name seen_of (front_of b) m m.lines cs holds.lines (none_named name cs at) in
-      let said : MeetsBeside seen_of a name bytes (front_of b) (Some (machine_of driver b)) (Some is.fresh) cs meets =
-      subst (λ (n : List ℕ). MeetsBeside seen_of a n bytes (front_of b) (Some (machine_of driver b)) (Some is.fresh) cs meets) is.name_is
-      (subst (λ (o : Option (SessionRecord Seat)). MeetsBeside seen_of a c.name bytes (front_of b) (Some (machine_of driver b)) o cs meets) is.session_is fed)
-      in
+      let said : MeetsBeside seen_of a bytes (feed_state driver b (record { name = name; session = Some is.fresh }) text) cs meets =
+      subst (λ (n : List ℕ). MeetsBeside seen_of a bytes (feed_state driver b (record { name = n; session = Some is.fresh }) text) cs meets) is.name_is
+      (subst (λ (o : Option (SessionRecord Seat)). MeetsBeside seen_of a bytes (feed_state driver b (record { name = c.name; session = o }) text) cs meets)
+      is.session_is fed) in
       meets_those seen_of decides s m (front_of b) (Some (machine_of driver b)) cs cs a name bytes (InLine []) meets holds (new_live m name nobody)
       (new_begun m name nobody) (λ e. refl) (λ e. refl)
       (said s _ (InLine [])

@@ -41,7 +41,7 @@ use Rattle.iio_core.specs.declared.became.Gave.TheVariants as gave
 use Rattle.iio_kinds.specs.Handling.{IsRoom, counted, is_last}
 use Rattle.iio_history.specs.Words.{became_word, polled_words, sensed_words, unplugged_word}
 use Rattle.iio_bench.specs.Seat.{seen_of}
-use Rattle.iio_system.specs.Standing.{CanCapture, Holds, Makes, RiseBy}
+use Rattle.iio_system.specs.Standing.{CanCapture, Holds, Makes, RiseBy, step_state}
 use Rattle.iio_kinds.specs.Station.{any_front, any_station}
 use Rattle.iio_system.specs.System.{AreLines}
 use Rattle.iio_system.proofs.LineLaws.{SameLine, every_line_there, served_moves}
@@ -202,7 +202,7 @@ module _ {X : Type 0} {V : X → Type 0} (driver : Plug X V → Driver) where
 
   pub clock_makes : (t : ℤ) (b b' : Bench X V) (cs : List (Connection Seat)) (before after : List ℕ) → bench_front b' ≡ bench_front b
       → bench_machine driver b' ≡ record (bench_machine driver b) { clock = t }
-      → after ≡ before ++ printed (codes "clock" ∷ signed_decimal t ∷ []) → Makes driver (SetClock t) b b' cs cs before after
+      → after ≡ before ++ printed (codes "clock" ∷ signed_decimal t ∷ []) → Makes driver (SetClock t) (step_state b cs before) (step_state b' cs after)
   clock_makes t b b' cs before after front told line = λ s m h. (
     one_line s m (Clock t) _ before after h.bench tt refl line,
     holds_then s m (Clock t) b b' cs tt h front (told ∙ ap (λ (x : Machine). record x { clock = t }) (machine_told s m b cs h) ∙ sym (clock_is s m t)),
@@ -245,7 +245,7 @@ module _ {X : Type 0} {V : X → Type 0} (driver : Plug X V → Driver) where
       → bench_front b' ≡ bench_front b
       → bench_machine driver b' ≡ machine_after_unplugging (bench_front b) dev (bench_machine driver b)
       → name ≡ device_name (bench_front b') dev → was ≡ (is_plugged (bench_machine driver b) dev && not (is_average (kind_at (bench_front b) dev)))
-      → after ≡ before ++ printed (name ∷ unplugged_word was ∷ []) → Makes driver (Unplug dev) b b' cs cs before after
+      → after ≡ before ++ printed (name ∷ unplugged_word was ∷ []) → Makes driver (Unplug dev) (step_state b cs before) (step_state b' cs after)
   unplug_makes dev b b' cs before after name was less front told named answered line = λ s m h. (
     one_line s m (Unplugged dev) _ before after h.bench tt
         (ap (λ (n : List ℕ). printed (n ∷ unplugged_word was ∷ [])) (named ∙ named_here s m b b' cs dev front h)
@@ -270,7 +270,7 @@ module _ {X : Type 0} {V : X → Type 0} (driver : Plug X V → Driver) where
       → bench_machine driver b' ≡ machine_after_look (bench_front b) dev t (bench_machine driver b)
       → name ≡ device_name (bench_front b') dev
       → answer ≡ kind_sensed (kind_at (bench_front b) dev) (shape_at (bench_front b) dev) t (station_at (bench_machine driver b) dev)
-      → after ≡ before ++ printed (name ∷ sensed_words answer) → Makes driver (Sense dev t) b b' cs cs before after
+      → after ≡ before ++ printed (name ∷ sensed_words answer) → Makes driver (Sense dev t) (step_state b cs before) (step_state b' cs after)
   sense_makes dev t b b' cs before after name answer less front told named answered line = λ s m h. (
     one_line s m (Sensed dev t) _ before after h.bench tt
         (ap (λ (n : List ℕ). printed (n ∷ sensed_words answer)) (named ∙ named_here s m b b' cs dev front h)

@@ -20,7 +20,7 @@ use Rattle.iio_history.proofs.BenchKept.{arrived_is_there, bench_kept, room_afte
 use Rattle.iio_history.proofs.BenchLists.{name_itself}
 use Rattle.iio_history.proofs.BenchOthers.{arrival_is_nothing, new_is_client}
 use Rattle.iio_bench.specs.declared.connection.Connection.{Connection}
-use Rattle.iio_bench.specs.Connection.{IsHearing}
+use Rattle.iio_bench.specs.Connection.{IsHearing, arrival}
 use Rattle.iio_system.specs.System.{AreLines, Stands}
 use Rattle.iio_system.proofs.FedLaws.{HasArrived, user_of_line}
 use Rattle.iio_system.proofs.LineLaws.{OthersAre, clients_kept, every_line_there, other_arrived, others_are, others_move}
@@ -76,7 +76,7 @@ module _ {S : Type 0} (seen : S → SeatRecord) where
 
   pub new_arrived : (s : Setup) (m : Told) (front : Front) (told : Option Machine) (cs : List (Connection S)) (name bytes : List ℕ) (c : Connection S)
       → Stands seen s m front told cs → line_named name m.lines ≡ None → c.name ≡ name
-      → HasArrived seen front (step s m (Arrived name bytes)) name (InLine []) bytes (cs ++ c ∷ [])
+      → HasArrived seen front (step s m (Arrived name bytes)) (arrival name (InLine []) bytes) (cs ++ c ∷ [])
   new_arrived s m front told cs name bytes c stands none same =
       let f : Line → Line = line_after s (registry_of m) (Arrived name bytes) in
       let x : Line = new_line (Arrived name bytes) (new_user s name) in
@@ -108,7 +108,7 @@ module _ {S : Type 0} (seen : S → SeatRecord) where
   pub new_hearing : (s : Setup) (m : Told) (front : Front) (told : Option Machine) (cs : List (Connection S)) (name bytes : List ℕ) (x : SessionRecord S)
       → Stands seen s m front told cs → line_named name m.lines ≡ None → IsFresh (length cs) Script x
       → Every (CanJoinMore (suc (length (items_from (InLine []) bytes)))) m.stations
-      → IsHearing seen s (step s m (Arrived name bytes)) front told name (InLine []) bytes x
+      → IsHearing seen s (step s m (Arrived name bytes)) front told (arrival name (InLine []) bytes) x
   new_hearing s m front told cs name bytes x stands none fresh room = record {
     front_is = stands.front_is;
     told_is = stands.told_is ∙ ap (λ (n : Machine). Some n) (sym (arrival_is_nothing s m name bytes stands.bench));

@@ -24,10 +24,10 @@ use Rattle.iio_system.specs.declared.step.Step.TheVariants as code
 use Rattle.iio_system.specs.Step.{step_view}
 use Rattle.iio_bench.specs.Bench.{Kept, front_of, kept_of, machine_of}
 use Rattle.iio_system.specs.Connections.{AreOwning}
-use Rattle.iio_bench.specs.Feeding.{Feeds, IsOwning, left_by}
+use Rattle.iio_bench.specs.Feeding.{Feeds, IsOwning, feed_state, left_by}
 use Rattle.iio_history.specs.Words.{dropped_word}
 use Rattle.iio_bench.specs.Seat.{seen_of}
-use Rattle.iio_system.specs.Standing.{Holds, IsNew, Makes, MakesFeed, MakesStep, has_room, name_by, names_with}
+use Rattle.iio_system.specs.Standing.{Holds, IsMade, IsNew, Makes, MakesFeed, MakesStep, has_room, name_by, names_with, step_state}
 use Rattle.iio_system.specs.System.{Stands}
 use Rattle.iio_system.proofs.DropLaws.{dropped_nowhere, dropped_there}
 use Rattle.iio_system.proofs.FeedLaws.{fed_new, fed_there}
@@ -97,47 +97,41 @@ module _ {X : Type 0} {V : X → Type 0} (driver : Plug X V → Driver) where
   pub feeds_there : {A : Type 0} (b b' : Bench X V) (cs : List (Connection Seat)) (i : ℕ) (c c' : Connection Seat) (name bytes before after : List ℕ)
       (r : Result A Mem)
       → Some i ≡ position (is_named name) cs → c ≡ get_or cs i c → c'.name ≡ c.name → kept_of b' ≡ kept_of b → IsOwning seen_of (front_of b') c'.session
-      → OnOk r (Feeds seen_of c.name bytes (front_of b) (Some (machine_of driver b)) (Some (machine_of driver b')) before after c.session c'.session)
-      → OnOk r (MakesFeed driver name bytes b b' cs (set cs i c') before after)
+      → OnOk r (Feeds seen_of bytes (feed_state driver b c before) (feed_state driver b' c' after))
+      → OnOk r (MakesFeed driver name bytes (step_state b cs before) (step_state b' (set cs i c') after))
   feeds_there b b' cs i c c' name bytes before after (Err e) at is same kept owns feeds = tt
   feeds_there b b' cs i c c' name bytes before after (Ok x) at is same kept owns feeds = λ s m room holds.
       let place = position-Some (is_named name) cs i c (sym at) in
       let own : c.name ≡ name = name_same c.name name (ap (λ (e : Connection Seat). is_named name e) is ∙ place.1) in
       let fed =
-      fed_there seen_of s m (front_of b) (Some (machine_of driver b)) (Some (machine_of driver b')) cs name bytes before after i c c'.session holds room
-      place.0 place.1 place.2
-      (subst (λ (e : Connection Seat). Feeds seen_of name bytes (front_of b) (Some (machine_of driver b)) (Some (machine_of driver b')) before after e.session
-      c'.session) is
-      (subst (λ (n : List ℕ). Feeds seen_of n bytes (front_of b) (Some (machine_of driver b)) (Some (machine_of driver b')) before after c.session c'.session)
-      own feeds))
+      fed_there seen_of s m cs bytes (feed_state driver b c before) (feed_state driver b' c' after) i c holds room place.0
+      (ap (λ (n : List ℕ). is_named n (get_or cs i c)) own ∙ place.1) (λ k h. ap (λ (n : List ℕ). is_named n (get_or cs k c)) own ∙ place.2 k h) is feeds
       (subst (λ (f : Front). IsOwning seen_of f c'.session) (front_kept b b' kept) owns) in
       let whole : with_session seen_of c'.session (get_or cs i c) ≡ c' =
-      ap (λ (n : List ℕ). (let e : Connection Seat = record { name = n; session = c'.session } in e)) (ap name_by (sym is) ∙ sym same) in (
+      ap (λ (n : List ℕ). (let e : Connection Seat = record { name = n; session = c'.session } in e)) (ap name_by (sym is) ∙ sym same) in
+      subst (λ (n : List ℕ). IsMade driver s m (Feed n bytes) (step_state b cs before) (step_state b' (set cs i c') after)) own (
         fed.0,
-        holds_then s (state_after s m (Feed name bytes)) b b' (set cs i c') kept
-            (subst (λ (e : Connection Seat). Stands seen_of s (state_after s m (Feed name bytes)) (front_of b) (Some (machine_of driver b')) (set cs i e)) whole
-            fed.1),
+        holds_then s (state_after s m (Feed c.name bytes)) b b' (set cs i c') kept
+            (subst (λ (e : Connection Seat). Stands seen_of s (state_after s m (Feed c.name bytes)) (front_of b) (Some (machine_of driver b')) (set cs i e))
+            whole fed.1),
       )
 
   pub feeds_new : {A : Type 0} (b b' : Bench X V) (cs : List (Connection Seat)) (c c' : Connection Seat) (name bytes before after : List ℕ) (r : Result A Mem)
       → None ≡ position (is_named name) cs → IsNew name (length cs) c → c'.name ≡ c.name → kept_of b' ≡ kept_of b → IsOwning seen_of (front_of b') c'.session
-      → OnOk r (Feeds seen_of c.name bytes (front_of b) (Some (machine_of driver b)) (Some (machine_of driver b')) before after c.session c'.session)
-      → OnOk r (MakesFeed driver name bytes b b' cs (cs ++ c' ∷ []) before after)
+      → OnOk r (Feeds seen_of bytes (feed_state driver b c before) (feed_state driver b' c' after))
+      → OnOk r (MakesFeed driver name bytes (step_state b cs before) (step_state b' (cs ++ c' ∷ []) after))
   feeds_new b b' cs c c' name bytes before after (Err e) at is same kept owns feeds = tt
   feeds_new b b' cs c c' name bytes before after (Ok x) at is same kept owns feeds = λ s m room holds.
       let fed =
-      fed_new seen_of s m (front_of b) (Some (machine_of driver b)) (Some (machine_of driver b')) cs name bytes before after is.fresh c'.session holds
-      room (none_named name cs (sym at)) is.is_fresh
-      (subst (λ (o : Option (SessionRecord Seat)). Feeds seen_of name bytes (front_of b) (Some (machine_of driver b)) (Some (machine_of driver b')) before after
-      o c'.session) is.session_is
-      (subst (λ (n : List ℕ). Feeds seen_of n bytes (front_of b) (Some (machine_of driver b)) (Some (machine_of driver b')) before after c.session c'.session)
-      is.name_is feeds))
+      fed_new seen_of s m cs bytes (feed_state driver b c before) (feed_state driver b' c' after) is.fresh holds room
+      (λ i d less. ap (λ (n : List ℕ). is_named n (get_or cs i d)) is.name_is ∙ none_named name cs (sym at) i d less) is.is_fresh is.session_is feeds
       (subst (λ (f : Front). IsOwning seen_of f c'.session) (front_kept b b' kept) owns) in
-      let whole : record { name = name; session = c'.session } ≡ c' =
-      ap (λ (n : List ℕ). (let e : Connection Seat = record { name = n; session = c'.session } in e)) (sym (same ∙ is.name_is)) in (
+      let whole : record { name = c.name; session = c'.session } ≡ c' =
+      ap (λ (n : List ℕ). (let e : Connection Seat = record { name = n; session = c'.session } in e)) (sym same) in
+      subst (λ (n : List ℕ). IsMade driver s m (Feed n bytes) (step_state b cs before) (step_state b' (cs ++ c' ∷ []) after)) is.name_is (
         fed.0,
-        holds_then s (state_after s m (Feed name bytes)) b b' (cs ++ c' ∷ []) kept
-            (subst (λ (e : Connection Seat). Stands seen_of s (state_after s m (Feed name bytes)) (front_of b) (Some (machine_of driver b')) (cs ++ e ∷ []))
+        holds_then s (state_after s m (Feed c.name bytes)) b b' (cs ++ c' ∷ []) kept
+            (subst (λ (e : Connection Seat). Stands seen_of s (state_after s m (Feed c.name bytes)) (front_of b) (Some (machine_of driver b')) (cs ++ e ∷ []))
             whole fed.1),
       )
 
@@ -146,7 +140,7 @@ module _ {X : Type 0} {V : X → Type 0} (driver : Plug X V → Driver) where
       → Some i ≡ position (is_named name) cs → c ≡ get_or cs i c → c'.name ≡ c.name → c'.session ≡ None → live ≡ is_some c.session
       → kept_of b' ≡ kept_of b → machine_of driver b' ≡ left_by seen_of (front_of b) (machine_of driver b) c.session
       → OnOk r (after ≡ before ++ printed (name ∷ dropped_word live ∷ []))
-      → OnOk r (Makes driver (Drop name) b b' cs (set cs i c') before after)
+      → OnOk r (Makes driver (Drop name) (step_state b cs before) (step_state b' (set cs i c') after))
   drops_there b b' cs i c c' name before after live (Err e) at is same none was kept left lines = tt
   drops_there b b' cs i c c' name before after live (Ok x) at is same none was kept left lines = λ s m holds.
       let place = position-Some (is_named name) cs i c (sym at) in
@@ -165,7 +159,7 @@ module _ {X : Type 0} {V : X → Type 0} (driver : Plug X V → Driver) where
 
   pub drops_nowhere : (b : Bench X V) (cs : List (Connection Seat)) (name before after : List ℕ) (r : Result (Unit {0}) Mem)
       → None ≡ position (is_named name) cs → OnOk r (after ≡ before ++ printed (name ∷ dropped_word false ∷ []))
-      → OnOk r (Makes driver (Drop name) b b cs cs before after)
+      → OnOk r (Makes driver (Drop name) (step_state b cs before) (step_state b cs after))
   drops_nowhere b cs name before after (Err e) at lines = tt
   drops_nowhere b cs name before after (Ok x) at lines = λ s m holds.
       let dropped = dropped_nowhere seen_of s m (front_of b) (machine_of driver b) cs name holds (none_named name cs (sym at)) in (
@@ -176,16 +170,19 @@ module _ {X : Type 0} {V : X → Type 0} (driver : Plug X V → Driver) where
   -- ---- any step
 
   pub made_move : {A : Type 0} (t : CodeStep) (b b' : Bench X V) (cs : List (Connection Seat)) (before after : List ℕ) (r : Result A Mem)
-      → OnOk r ((cs : List (Connection Seat)) → Makes driver (step_view t) b b' cs cs before after) → OnOk r (MakesStep driver t b b' cs cs before after)
+      → OnOk r ((cs : List (Connection Seat)) → Makes driver (step_view t) (step_state b cs before) (step_state b' cs after))
+      → OnOk r (MakesStep driver t (step_state b cs before) (step_state b' cs after))
   made_move t b b' cs before after (Err e) makes = tt
   made_move t b b' cs before after (Ok x) makes = λ s m room holds. makes cs s m holds
 
   pub made_feed : {A : Type 0} (name bytes : List ℕ) (b b' : Bench X V) (cs cs' : List (Connection Seat)) (before after : List ℕ) (r : Result A Mem)
-      → OnOk r (MakesFeed driver name bytes b b' cs cs' before after) → OnOk r (MakesStep driver (code.Feed name bytes) b b' cs cs' before after)
+      → OnOk r (MakesFeed driver name bytes (step_state b cs before) (step_state b' cs' after))
+      → OnOk r (MakesStep driver (code.Feed name bytes) (step_state b cs before) (step_state b' cs' after))
   made_feed name bytes b b' cs cs' before after (Err e) makes = tt
   made_feed name bytes b b' cs cs' before after (Ok x) makes = λ s m room holds. makes s m (rw one-add at room) holds
 
   pub made_step : {A : Type 0} (t : CodeStep) (b b' : Bench X V) (cs cs' : List (Connection Seat)) (before after : List ℕ) (r : Result A Mem)
-      → OnOk r (Makes driver (step_view t) b b' cs cs' before after) → OnOk r (MakesStep driver t b b' cs cs' before after)
+      → OnOk r (Makes driver (step_view t) (step_state b cs before) (step_state b' cs' after))
+      → OnOk r (MakesStep driver t (step_state b cs before) (step_state b' cs' after))
   made_step t b b' cs cs' before after (Err e) makes = tt
   made_step t b b' cs cs' before after (Ok x) makes = λ s m room holds. makes s m holds

@@ -12,11 +12,11 @@ use Rattle.iio_history.proofs.BenchLists.{name_same}
 use Rattle.iio_bench.specs.declared.bench.Bench.{Bench}
 use Rattle.iio_bench.specs.declared.connection.Connection.{Connection}
 use Rattle.iio_kinds.specs.declared.seat.Seat.{Seat}
-use Rattle.iio_bench.specs.Bench.{front_of, kept_of, machine_of}
+use Rattle.iio_bench.specs.Bench.{front_of, kept_of}
 use Rattle.iio_system.specs.Connections.{AreOwning}
-use Rattle.iio_bench.specs.Feeding.{Feeds, IsOwning}
+use Rattle.iio_bench.specs.Feeding.{Feeds, IsOwning, feed_state}
 use Rattle.iio_bench.specs.Seat.{seen_of}
-use Rattle.iio_system.specs.Standing.{MakesFeed, name_by, names_with}
+use Rattle.iio_system.specs.Standing.{MakesFeed, name_by, names_with, step_state}
 use Rattle.iio_system.proofs.NameLaws.{is_named}
 use Rattle.iio_system.proofs.PlayLaws.{feeds_there, names_kept, names_there}
 
@@ -82,8 +82,8 @@ module _ (name : List ℕ) (cs before : List (Connection Seat)) (c : Connection 
   pub feeds_between : {X : Type 0} {V : X → Type 0} {A : Type 0} (driver : Plug X V → Driver) (b b' : Bench X V) (c' : Connection Seat)
       (cs' : List (Connection Seat)) (bytes text text' : List ℕ) (r : Result A Mem)
       → cs' ≡ before ++ c' ∷ after → c'.name ≡ c.name → kept_of b' ≡ kept_of b → IsOwning seen_of (front_of b') c'.session
-      → OnOk r (Feeds seen_of c.name bytes (front_of b) (Some (machine_of driver b)) (Some (machine_of driver b')) text text' c.session c'.session)
-      → OnOk r (MakesFeed driver name bytes b b' cs cs' text text')
+      → OnOk r (Feeds seen_of bytes (feed_state driver b c text) (feed_state driver b' c' text'))
+      → OnOk r (MakesFeed driver name bytes (step_state b cs text) (step_state b' cs' text'))
   feeds_between driver b b' c' cs' bytes text text' r is same kept owns fed =
-      subst (λ (ds : List (Connection Seat)). OnOk r (MakesFeed driver name bytes b b' cs ds text text')) (put c' ∙ sym is)
+      subst (λ (ds : List (Connection Seat)). OnOk r (MakesFeed driver name bytes (step_state b cs text) (step_state b' ds text'))) (put c' ∙ sym is)
       (feeds_there driver b b' cs (length before) c c' name bytes text text' r at.place there same kept owns fed)

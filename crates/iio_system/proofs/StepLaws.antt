@@ -27,7 +27,7 @@ use Rattle.iio_kinds.specs.declared.seat.Seat.{Seat}
 use Rattle.iio_system.specs.declared.step.Step.{Step as CodeStep}
 use Rattle.iio_system.specs.declared.step.Step.TheVariants as code
 use Rattle.iio_system.specs.declared.system.System.{System}
-use Rattle.iio_system.specs.Standing.{Holds, IsPerformed, MakesStep, RiseBy, StandsFor, names_by, names_with}
+use Rattle.iio_system.specs.Standing.{Holds, IsPerformed, MakesStep, RiseBy, StandsFor, names_by, names_with, step_state}
 use Rattle.iio_kinds.specs.Station.{any_station}
 use Rattle.iio_system.specs.Step.{cost_of, step_view}
 use Rattle.iio_system.proofs.ItemLemmas.{items_few, room_less}
@@ -93,7 +93,7 @@ module _ {X : Type 0} {V : X → Type 0} (driver : Plug X V → Driver) where
 
   pub stands_step : (s : Setup) (h : List Event) (x x' : System X V) (t : CodeStep) (before after : List ℕ) → x.used + cost_of t < 2 ^ 56
       → x'.used ≡ x.used + cost_of t
-      → MakesStep driver t x.bench x'.bench x.connections.items x'.connections.items before after → StandsFor driver s h x
+      → MakesStep driver t (step_state x.bench x.connections.items before) (step_state x'.bench x'.connections.items after) → StandsFor driver s h x
       → (after ≡ before ++ lines_of_step s h (step_view t)) × StandsFor driver s (with_step s h (step_view t)) x'
   stands_step s h x x' t before after few used makes stands =
       let m : Told = told s h in
@@ -110,7 +110,7 @@ module _ {X : Type 0} {V : X → Type 0} (driver : Plug X V → Driver) where
 
   pub steps_ok : {A : Type 0} (x x' : System X V) (t : CodeStep) (before after : List ℕ) (r : Result A Mem) → x.used + cost_of t < 2 ^ 56
       → x'.used ≡ x.used + cost_of t
-      → OnOk r (MakesStep driver t x.bench x'.bench x.connections.items x'.connections.items before after)
+      → OnOk r (MakesStep driver t (step_state x.bench x.connections.items before) (step_state x'.bench x'.connections.items after))
       → OnOk r ((s : Setup) (h : List Event) → StandsFor driver s h x → (after ≡ before ++ lines_of_step s h (step_view t))
       × StandsFor driver s (with_step s h (step_view t)) x')
   steps_ok x x' t before after (Err e) few used makes = tt
@@ -118,7 +118,7 @@ module _ {X : Type 0} {V : X → Type 0} (driver : Plug X V → Driver) where
 
   pub performed_ok : {A : Type 0} (x x' : System X V) (t : CodeStep) (before after : List ℕ) (r : Result A Mem) → x.used + cost_of t < 2 ^ 56
       → x'.used ≡ x.used + cost_of t
-      → OnOk r (MakesStep driver t x.bench x'.bench x.connections.items x'.connections.items before after)
+      → OnOk r (MakesStep driver t (step_state x.bench x.connections.items before) (step_state x'.bench x'.connections.items after))
       → OnOk r (names_by x' ≡ names_with (names_by x) (step_view t))
       → OnOk r (IsPerformed driver (step_view t) x x' before after)
   performed_ok x x' t before after (Err e) few used makes names = tt

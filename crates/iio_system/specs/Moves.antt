@@ -8,10 +8,7 @@ use Rattle.iio_history.specs.Registry.{Setup}
 use Rattle.iio_core.specs.Trigger.{entries_at, entry_of}
 use Rattle.iio_history.specs.Told.{Told}
 use Rattle.iio_history.specs.Played.{steps, texts}
-use Rattle.iio_bench.specs.declared.bench.Bench.{Bench}
-use Rattle.iio_bench.specs.declared.connection.Connection.{Connection}
-use Rattle.iio_kinds.specs.declared.seat.Seat.{Seat}
-use Rattle.iio_system.specs.Standing.{Holds}
+use Rattle.iio_system.specs.Standing.{Holds, StepState}
 
 -- no device has made its last capture
 abbrev pub CanGoOn : List ℕ → Type 0
@@ -31,18 +28,17 @@ InOrder low high [] = low ≤ high
 InOrder low high (e ∷ es) = (low ≤ e.dev) × InOrder (suc e.dev) high es
 
 module _ {X : Type 0} {V : X → Type 0} (driver : Plug X V → Driver) where
-  -- the events that the entries of a trigger give: their lines, and what the bench and the connections hold afterwards
-  abbrev pub Plays : (events : List Handed → List Event) → Setup → Told → (trigger : ℕ) → (b' : Bench X V) (cs : List (Connection Seat)) (before after : List ℕ)
-      → Type 0
-  Plays events s m trigger b' cs before after =
-      (after ≡ before ++ texts s m (events (entries_at m.triggers trigger))) × Holds driver s (steps s m (events (entries_at m.triggers trigger))) b' cs
+  -- these events: their lines, and what the bench and the connections hold afterwards
+  abbrev pub Plays : Setup → Told → List Event → (x y : StepState X V) → Type 0
+  Plays s m events x y = (y.printed ≡ x.printed ++ texts s m events) × Holds driver s (steps s m events) y.bench y.connections
 
   -- the handling of a device's entry at a trigger
-  abbrev pub HandlesOne : (trigger dev : ℕ) → (b b' : Bench X V) (cs : List (Connection Seat)) (before after : List ℕ) → Type 0
-  HandlesOne trigger dev b b' cs before after =
-      (s : Setup) (m : Told) → Holds driver s m b cs → Plays (handling_of trigger dev) s m trigger b' cs before after
+  abbrev pub HandlesOne : (trigger dev : ℕ) → (x y : StepState X V) → Type 0
+  HandlesOne trigger dev x y =
+      (s : Setup) (m : Told) → Holds driver s m x.bench x.connections → Plays s m (handling_of trigger dev (entries_at m.triggers trigger)) x y
 
   -- the handling of all entries at a trigger, which are for devices below `high` and in their order
-  abbrev pub HandlesAll : (trigger high : ℕ) → (b b' : Bench X V) (cs : List (Connection Seat)) (before after : List ℕ) → Type 0
-  HandlesAll trigger high b b' cs before after =
-      (s : Setup) (m : Told) → Holds driver s m b cs → InOrder 0 high (entries_at m.triggers trigger) → Plays (handlings trigger) s m trigger b' cs before after
+  abbrev pub HandlesAll : (trigger high : ℕ) → (x y : StepState X V) → Type 0
+  HandlesAll trigger high x y =
+      (s : Setup) (m : Told) → Holds driver s m x.bench x.connections → InOrder 0 high (entries_at m.triggers trigger)
+      → Plays s m (handlings trigger (entries_at m.triggers trigger)) x y

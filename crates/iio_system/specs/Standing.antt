@@ -65,27 +65,37 @@ RiseBy k old new = (n : ℕ) → All (λ c. c ≤ n) old → All (λ c. c ≤ n 
 
 -- ---- the whole
 
+-- the state that a step changes: the bench, the connections, and what was printed
+pub record StepState (X : Type 0) (V : X → Type 0) : Type 0 where
+  pub bench : Bench X V
+  pub connections : List (Connection Seat)
+  pub printed : List ℕ
+
+abbrev pub step_state : {X : Type 0} {V : X → Type 0} → Bench X V → (connections : List (Connection Seat)) → (printed : List ℕ) → StepState X V
+step_state bench connections text = record { bench = bench; connections = connections; printed = text }
+
 module _ {X : Type 0} {V : X → Type 0} (driver : Plug X V → Driver) where
   -- what a bench and its connections hold is the told state
   abbrev pub Holds : Setup → Told → Bench X V → List (Connection Seat) → Type 0
   Holds s m b connections = Stands seen_of s m (front_of b) (Some (machine_of driver b)) connections
 
-  -- a step of a bench and its connections: its lines, and what they hold afterwards
-  abbrev pub Makes : Step → (b b' : Bench X V) (cs cs' : List (Connection Seat)) (before after : List ℕ) → Type 0
-  Makes t b b' cs cs' before after =
-      (s : Setup) (m : Told) → Holds s m b cs → (after ≡ before ++ step_lines s m t) × Holds s (state_after s m t) b' cs'
+  -- a step of a bench and its connections that hold this told state: its lines, and what they hold afterwards
+  abbrev pub IsMade : Setup → Told → Step → (x y : StepState X V) → Type 0
+  IsMade s m t x y = (y.printed ≡ x.printed ++ step_lines s m t) × Holds s (state_after s m t) y.bench y.connections
+
+  -- the same, whatever told state they hold
+  abbrev pub Makes : Step → (x y : StepState X V) → Type 0
+  Makes t x y = (s : Setup) (m : Told) → Holds s m x.bench x.connections → IsMade s m t x y
 
   -- a feed, if members can still be numbered
-  abbrev pub MakesFeed : (name bytes : List ℕ) → (b b' : Bench X V) (cs cs' : List (Connection Seat)) (before after : List ℕ) → Type 0
-  MakesFeed name bytes b b' cs cs' before after =
-      (s : Setup) (m : Told) → Every (CanJoinMore (suc (length bytes))) m.stations → Holds s m b cs
-      → (after ≡ before ++ step_lines s m (Feed name bytes)) × Holds s (state_after s m (Feed name bytes)) b' cs'
+  abbrev pub MakesFeed : (name bytes : List ℕ) → (x y : StepState X V) → Type 0
+  MakesFeed name bytes x y =
+      (s : Setup) (m : Told) → Every (CanJoinMore (suc (length bytes))) m.stations → Holds s m x.bench x.connections → IsMade s m (Feed name bytes) x y
 
   -- a step, if as many members can still be numbered as its cost, which is 1 and the number of its bytes
-  abbrev pub MakesStep : CodeStep → (b b' : Bench X V) (cs cs' : List (Connection Seat)) (before after : List ℕ) → Type 0
-  MakesStep t b b' cs cs' before after =
-      (s : Setup) (m : Told) → Every (CanJoinMore (cost_of t)) m.stations → Holds s m b cs
-      → (after ≡ before ++ step_lines s m (step_view t)) × Holds s (state_after s m (step_view t)) b' cs'
+  abbrev pub MakesStep : CodeStep → (x y : StepState X V) → Type 0
+  MakesStep t x y =
+      (s : Setup) (m : Told) → Every (CanJoinMore (cost_of t)) m.stations → Holds s m x.bench x.connections → IsMade s m (step_view t) x y
 
   -- whether a step keeps to the rules of bystanders as to the watched connection; and the same of a feed, and of any step of
   -- the code

@@ -6,7 +6,7 @@ ghost use Rattle.iio_history.specs.Script.{max_names};
 ghost use Rattle.iio_history.specs.Transcript.{Drop, Feed};
 ghost use Rattle.iio_bench.specs.Bench.{front_of, kept_of};
 ghost use Rattle.iio_system.specs.Connections.{AreApart, AreOwning};
-ghost use Rattle.iio_system.specs.Standing.{IsNew, Makes, MakesFeed, Meets, MeetsFeed, has_room, name_by, names_with};
+ghost use Rattle.iio_system.specs.Standing.{IsNew, Makes, MakesFeed, Meets, MeetsFeed, has_room, name_by, names_with, step_state};
 ghost use Rattle.iio_bench.specs.Seat.{seen_of};
 
 use crate::lines::push_drop;
@@ -86,8 +86,8 @@ fn feed_first(
     ensures few { length connections.new.items ≤ max_names }
     ensures apart { AreApart connections.new.items }
     ensures names { OnOk result (map name_by connections.new.items ≡ names_with (map name_by connections.old.items) (Feed name.now bytes.now)) }
-    ensures makes { OnOk result
-        (MakesFeed ⟦<Plug as Sensor>⟧.driver name.now bytes.now bench.old bench.new connections.old.items connections.new.items out.old.items out.new.items) }
+    ensures makes { OnOk result (MakesFeed ⟦<Plug as Sensor>⟧.driver name.now bytes.now
+        (step_state bench.old connections.old.items out.old.items) (step_state bench.new connections.new.items out.new.items)) }
 {
     connections.reserve(1)?;
     let mut connection = connect(alloc, connections.len(), name)?;
@@ -117,8 +117,8 @@ pub(crate) fn feed(
     ensures few { length connections.new.items ≤ max_names }
     ensures apart { AreApart connections.new.items }
     ensures names { OnOk result (map name_by connections.new.items ≡ names_with (map name_by connections.old.items) (Feed name.now bytes.now)) }
-    ensures makes { OnOk result
-        (MakesFeed ⟦<Plug as Sensor>⟧.driver name.now bytes.now bench.old bench.new connections.old.items connections.new.items out.old.items out.new.items) }
+    ensures makes { OnOk result (MakesFeed ⟦<Plug as Sensor>⟧.driver name.now bytes.now
+        (step_state bench.old connections.old.items out.old.items) (step_state bench.new connections.new.items out.new.items)) }
 {
     let Some(at) = place_near(connections, *last, name) else {
         return feed_first(alloc, bench, connections, name, bytes, answers, out);
@@ -150,8 +150,8 @@ fn guard_first(
     ensures few { length connections.new.items ≤ max_names }
     ensures apart { AreApart connections.new.items }
     ensures names { OnOk result (map name_by connections.new.items ≡ names_with (map name_by connections.old.items) (Feed name.now bytes.now)) }
-    ensures makes { OnOk result
-        (MakesFeed ⟦<Plug as Sensor>⟧.driver name.now bytes.now bench.old bench.new connections.old.items connections.new.items out.old.items out.new.items) }
+    ensures makes { OnOk result (MakesFeed ⟦<Plug as Sensor>⟧.driver name.now bytes.now
+        (step_state bench.old connections.old.items out.old.items) (step_state bench.new connections.new.items out.new.items)) }
     ensures meets { IfOk result (MeetsFeed ⟦<Plug as Sensor>⟧.driver watched.now name.now bytes.now bench.old connections.old.items) }
 {
     stance_law();
@@ -193,8 +193,8 @@ pub(crate) fn feed_guarded(
     ensures few { length connections.new.items ≤ max_names }
     ensures apart { AreApart connections.new.items }
     ensures names { OnOk result (map name_by connections.new.items ≡ names_with (map name_by connections.old.items) (Feed name.now bytes.now)) }
-    ensures makes { OnOk result
-        (MakesFeed ⟦<Plug as Sensor>⟧.driver name.now bytes.now bench.old bench.new connections.old.items connections.new.items out.old.items out.new.items) }
+    ensures makes { OnOk result (MakesFeed ⟦<Plug as Sensor>⟧.driver name.now bytes.now
+        (step_state bench.old connections.old.items out.old.items) (step_state bench.new connections.new.items out.new.items)) }
     ensures meets { IfOk result (MeetsFeed ⟦<Plug as Sensor>⟧.driver watched.now name.now bytes.now bench.old connections.old.items) }
 {
     stance_law();
@@ -231,8 +231,8 @@ pub(crate) fn drop_named(
     ensures owned { AreOwning seen_of (front_of bench.new) connections.new.items }
     ensures names { map name_by connections.new.items ≡ map name_by connections.old.items }
     ensures count { length connections.new.items ≡ length connections.old.items }
-    ensures makes { OnOk result
-        (Makes ⟦<Plug as Sensor>⟧.driver (Drop name.now) bench.old bench.new connections.old.items connections.new.items out.old.items out.new.items) }
+    ensures makes { OnOk result (Makes ⟦<Plug as Sensor>⟧.driver (Drop name.now)
+        (step_state bench.old connections.old.items out.old.items) (step_state bench.new connections.new.items out.new.items)) }
 {
     match place(connections, name) {
         Some(at) => {
@@ -257,8 +257,8 @@ pub(crate) fn drop_guarded(
     ensures owned { AreOwning seen_of (front_of bench.new) connections.new.items }
     ensures names { map name_by connections.new.items ≡ map name_by connections.old.items }
     ensures count { length connections.new.items ≡ length connections.old.items }
-    ensures makes { OnOk result
-        (Makes ⟦<Plug as Sensor>⟧.driver (Drop name.now) bench.old bench.new connections.old.items connections.new.items out.old.items out.new.items) }
+    ensures makes { OnOk result (Makes ⟦<Plug as Sensor>⟧.driver (Drop name.now)
+        (step_state bench.old connections.old.items out.old.items) (step_state bench.new connections.new.items out.new.items)) }
     ensures meets { IfOk result (Meets ⟦<Plug as Sensor>⟧.driver watched.now (Drop name.now) bench.old connections.old.items) }
 {
     stance_law();

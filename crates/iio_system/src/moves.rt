@@ -9,7 +9,7 @@ ghost use Rattle.iio_kinds.specs.declared.seat.Seat.{Seat};
 ghost use Rattle.iio_bench.specs.Bench.{captures_of, front_of, room_at};
 ghost use Rattle.iio_history.specs.Words.{became_word};
 ghost use Rattle.iio_system.specs.Moves.{CanGoOn, HandlesAll, HandlesOne};
-ghost use Rattle.iio_system.specs.Standing.{CanCapture, Makes, RiseBy};
+ghost use Rattle.iio_system.specs.Standing.{CanCapture, Makes, RiseBy, step_state};
 
 use crate::lines::{push_clock, push_gave, push_handle, push_poll, push_sense, push_unplug};
 use iio_base::Mem;
@@ -22,8 +22,8 @@ use iio_trigger::Polled;
 /// `clock T`: sets the clock.
 pub(crate) fn set_clock(bench: &mut Bench, t: i64, out: &mut Vec<u8>) -> Result<(), Mem>
     ensures front { front_of bench.new ≡ front_of bench.old }
-    ensures makes { OnOk result
-        ((cs : List (Connection Seat)) → Makes ⟦<Plug as Sensor>⟧.driver (SetClock t) bench.old bench.new cs cs out.old.items out.new.items) }
+    ensures makes { OnOk result ((cs : List (Connection Seat)) → Makes ⟦<Plug as Sensor>⟧.driver (SetClock t)
+        (step_state bench.old cs out.old.items) (step_state bench.new cs out.new.items)) }
     ensures captures { RiseBy 32 (captures_of bench.old) (captures_of bench.new) }
 {
     bench.set_clock(t);
@@ -34,8 +34,8 @@ pub(crate) fn set_clock(bench: &mut Bench, t: i64, out: &mut Vec<u8>) -> Result<
 pub(crate) fn unplug(bench: &mut Bench, dev: u32, out: &mut Vec<u8>) -> Result<(), Mem>
     requires { dev < length (front_of bench.old).devices }
     ensures front { front_of bench.new ≡ front_of bench.old }
-    ensures makes { OnOk result
-        ((cs : List (Connection Seat)) → Makes ⟦<Plug as Sensor>⟧.driver (Unplug dev) bench.old bench.new cs cs out.old.items out.new.items) }
+    ensures makes { OnOk result ((cs : List (Connection Seat)) → Makes ⟦<Plug as Sensor>⟧.driver (Unplug dev)
+        (step_state bench.old cs out.old.items) (step_state bench.new cs out.new.items)) }
     ensures captures { RiseBy 32 (captures_of bench.old) (captures_of bench.new) }
 {
     let was_plugged = bench.unplug(dev);
@@ -47,8 +47,8 @@ pub(crate) fn unplug(bench: &mut Bench, dev: u32, out: &mut Vec<u8>) -> Result<(
 pub(crate) fn sense(bench: &mut Bench, dev: u32, t: i64, out: &mut Vec<u8>) -> Result<(), Mem>
     requires { dev < length (front_of bench.old).devices }
     ensures front { front_of bench.new ≡ front_of bench.old }
-    ensures makes { OnOk result
-        ((cs : List (Connection Seat)) → Makes ⟦<Plug as Sensor>⟧.driver (Sense dev t) bench.old bench.new cs cs out.old.items out.new.items) }
+    ensures makes { OnOk result ((cs : List (Connection Seat)) → Makes ⟦<Plug as Sensor>⟧.driver (Sense dev t)
+        (step_state bench.old cs out.old.items) (step_state bench.new cs out.new.items)) }
     ensures captures { RiseBy 32 (captures_of bench.old) (captures_of bench.new) }
 {
     let sensed = bench.sense(dev, t);
@@ -60,8 +60,8 @@ pub(crate) fn sense(bench: &mut Bench, dev: u32, t: i64, out: &mut Vec<u8>) -> R
 pub(crate) fn poll(bench: &mut Bench, trigger: u32, t: i64, out: &mut Vec<u8>) -> Result<(), Mem>
     requires { trigger < length (front_of bench.old).triggers }
     ensures front { front_of bench.new ≡ front_of bench.old }
-    ensures makes { OnOk result
-        ((cs : List (Connection Seat)) → Makes ⟦<Plug as Sensor>⟧.driver (Poll trigger t) bench.old bench.new cs cs out.old.items out.new.items) }
+    ensures makes { OnOk result ((cs : List (Connection Seat)) → Makes ⟦<Plug as Sensor>⟧.driver (Poll trigger t)
+        (step_state bench.old cs out.old.items) (step_state bench.new cs out.new.items)) }
     ensures captures { RiseBy 32 (captures_of bench.old) (captures_of bench.new) }
 {
     let polled = bench.poll(trigger, t);
@@ -103,8 +103,8 @@ pub(crate) fn handle(
     requires dev { dev < length (front_of bench.old).devices }
     requires captures { CanCapture (captures_of bench.old) }
     ensures front { front_of bench.new ≡ front_of bench.old }
-    ensures makes { OnOk result
-        ((cs : List (Connection Seat)) → Makes ⟦<Plug as Sensor>⟧.driver (Handle trigger dev) bench.old bench.new cs cs out.old.items out.new.items) }
+    ensures makes { OnOk result ((cs : List (Connection Seat)) → Makes ⟦<Plug as Sensor>⟧.driver (Handle trigger dev)
+        (step_state bench.old cs out.old.items) (step_state bench.new cs out.new.items)) }
     ensures captures { RiseBy 32 (captures_of bench.old) (captures_of bench.new) }
 {
     let became = bench.handle(trigger, dev);
@@ -117,8 +117,8 @@ fn handle_one(bench: &mut Bench, trigger: u32, dev: u32, out: &mut Vec<u8>) -> R
     requires dev { dev < length (front_of bench.old).devices }
     requires captures { CanGoOn (captures_of bench.old) }
     ensures front { front_of bench.new ≡ front_of bench.old }
-    ensures makes { OnOk result
-        ((cs : List (Connection Seat)) → HandlesOne ⟦<Plug as Sensor>⟧.driver trigger dev bench.old bench.new cs out.old.items out.new.items) }
+    ensures makes { OnOk result ((cs : List (Connection Seat)) → HandlesOne ⟦<Plug as Sensor>⟧.driver trigger dev
+        (step_state bench.old cs out.old.items) (step_state bench.new cs out.new.items)) }
     ensures captures { RiseBy 1 (captures_of bench.old) (captures_of bench.new) }
 {
     match bench.handle(trigger, dev) {
@@ -132,9 +132,8 @@ fn handle_all(bench: &mut Bench, trigger: u32, out: &mut Vec<u8>) -> Result<(), 
     requires trigger { trigger < length (front_of bench.old).triggers }
     requires captures { CanCapture (captures_of bench.old) }
     ensures front { front_of bench.new ≡ front_of bench.old }
-    ensures makes { OnOk result
-        ((cs : List (Connection Seat))
-        → HandlesAll ⟦<Plug as Sensor>⟧.driver trigger (length (front_of bench.old).devices) bench.old bench.new cs out.old.items out.new.items) }
+    ensures makes { OnOk result ((cs : List (Connection Seat)) → HandlesAll ⟦<Plug as Sensor>⟧.driver trigger (length (front_of bench.old).devices)
+        (step_state bench.old cs out.old.items) (step_state bench.new cs out.new.items)) }
     ensures captures { RiseBy 32 (captures_of bench.old) (captures_of bench.new) }
 {
     let devices = bench.device_count();
@@ -157,8 +156,8 @@ pub(crate) fn fire(bench: &mut Bench, trigger: u32, t: i64, out: &mut Vec<u8>) -
     requires trigger { trigger < length (front_of bench.old).triggers }
     requires captures { CanCapture (captures_of bench.old) }
     ensures front { front_of bench.new ≡ front_of bench.old }
-    ensures makes { OnOk result
-        ((cs : List (Connection Seat)) → Makes ⟦<Plug as Sensor>⟧.driver (Fire trigger t) bench.old bench.new cs cs out.old.items out.new.items) }
+    ensures makes { OnOk result ((cs : List (Connection Seat)) → Makes ⟦<Plug as Sensor>⟧.driver (Fire trigger t)
+        (step_state bench.old cs out.old.items) (step_state bench.new cs out.new.items)) }
     ensures captures { RiseBy 32 (captures_of bench.old) (captures_of bench.new) }
 {
     let polled = bench.poll(trigger, t);

@@ -11,7 +11,7 @@ ghost use Rattle.iio_history.specs.Transcript.{Feed, Fire, lines_of_step, with_s
 ghost use Rattle.iio_bench.specs.Bench.{captures_of, front_of};
 ghost use Rattle.iio_worlds.specs.Bystanders.{only_bystanders};
 ghost use Rattle.iio_system.specs.Connections.{AreApart, AreOwning};
-ghost use Rattle.iio_system.specs.Standing.{CanCapture, IsPerformed, IsTaken, MakesStep, MeetsStep, RiseBy, StandsFor, has_room, name_by, names_by, names_with};
+ghost use Rattle.iio_system.specs.Standing.{CanCapture, IsPerformed, IsTaken, MakesStep, MeetsStep, RiseBy, StandsFor, has_room, name_by, names_by, names_with, step_state};
 ghost use Rattle.iio_bench.specs.Seat.{seen_of};
 ghost use Rattle.iio_system.specs.Step.{IsValid, cost_of, step_view};
 
@@ -63,8 +63,8 @@ fn perform(
     ensures apart { AreApart connections.new.items }
     ensures names { OnOk result (map name_by connections.new.items ≡ names_with (map name_by connections.old.items) (step_view step.now)) }
     ensures captures { RiseBy 32 (captures_of bench.old) (captures_of bench.new) }
-    ensures makes { OnOk result
-        (MakesStep ⟦<Plug as Sensor>⟧.driver step.now bench.old bench.new connections.old.items connections.new.items out.old.items out.new.items) }
+    ensures makes { OnOk result (MakesStep ⟦<Plug as Sensor>⟧.driver step.now
+        (step_state bench.old connections.old.items out.old.items) (step_state bench.new connections.new.items out.new.items)) }
 {
     match step {
         Step::Feed(name, bytes) => feed(
@@ -110,8 +110,8 @@ fn perform_guarded(
     ensures apart { AreApart connections.new.items }
     ensures names { OnOk result (map name_by connections.new.items ≡ names_with (map name_by connections.old.items) (step_view step.now)) }
     ensures captures { RiseBy 32 (captures_of bench.old) (captures_of bench.new) }
-    ensures makes { OnOk result
-        (MakesStep ⟦<Plug as Sensor>⟧.driver step.now bench.old bench.new connections.old.items connections.new.items out.old.items out.new.items) }
+    ensures makes { OnOk result (MakesStep ⟦<Plug as Sensor>⟧.driver step.now
+        (step_state bench.old connections.old.items out.old.items) (step_state bench.new connections.new.items out.new.items)) }
     ensures meets { IfOk result (MeetsStep ⟦<Plug as Sensor>⟧.driver watched.now step.now bench.old connections.old.items) }
 {
     match step {
@@ -187,7 +187,7 @@ impl System {
         )
     }
 
-    /// Performs the step `fire TRIGGER T`, like [`System::step`].
+    /// Performs the step `fire TRIGGER T`, like [`System::step`]. `t` is in the script's own unit.
     pub fn fire(&mut self, trigger: u32, t: i64, out: &mut Vec<u8>) -> Result<(), Mem>
         requires valid { trigger < length (front_of self.old.bench).triggers }
         requires few { self.old.used + 1 < 2 ^ 56 }

@@ -5,7 +5,6 @@ use Rattle.iio_base.specs.Refusals.{first_refusal, unless_refused}
 use Rattle.iio_attr.specs.declared.attributes.Attr.{Attr}
 use Rattle.iio_attr.specs.declared.attributes.Attr.TheVariants as attr
 use Rattle.iio_attr.specs.declared.values.Value.{Value}
-use Rattle.iio_mask.specs.declared.Mask.{Mask}
 use Rattle.iio_trigger.specs.Trigger.{State}
 use Rattle.iio_device.specs.declared.roster.JoinFault.{JoinFault}
 use Rattle.iio_device.specs.declared.roster.JoinFault.TheVariants as fault
@@ -14,7 +13,7 @@ use Rattle.iio_device.specs.Site.{Site, sampled}
 use Rattle.iiod_commands.specs.declared.iio.No.{No}
 use Rattle.iiod_commands.specs.No.{no_of}
 use Rattle.iio_kfifo.specs.Ends.{WriterEnd}
-use Rattle.iiod_bank.specs.Jobs.{OpenMakes, ReadMakes, after_value}
+use Rattle.iiod_bank.specs.Jobs.{Buffer, OpenMakes, ReadMakes, after_value, count_lost}
 use Rattle.iiod_bank.specs.Lent.{Kept}
 
 pub kept_along : (a x b : DeviceView WriterEnd) → b ≡ x → Kept a x → Kept a b
@@ -31,19 +30,18 @@ kept_site site false a b e = kept_same a b e
 pub kept_retriggered : (trigger : Option ℕ) (a b : DeviceView WriterEnd) → b ≡ after_trigger trigger a → Kept a b
 kept_retriggered trigger a b e = kept_site (record a.site { trigger = trigger }) (is_idle a) a b e
 
-pub kept_left : (lost : WriterEnd → ℕ) (number : ℕ) (o : Option WriterEnd) (a b : DeviceView WriterEnd) (s t : State) → LeavesDevice lost number o a b s t
-    → Kept a b
-kept_left lost number None a b s t left = kept_same a b left.1
-kept_left lost number (Some tail) a b s t left = kept_along a _ b left.1 (record { name = refl; number = refl; shape = refl })
+pub kept_left : (number : ℕ) (o : Option WriterEnd) (a b : DeviceView WriterEnd) (s t : State) → LeavesDevice count_lost number o a b s t → Kept a b
+kept_left number None a b s t left = kept_same a b left.1
+kept_left number (Some tail) a b s t left = kept_along a _ b left.1 (record { name = refl; number = refl; shape = refl })
 
 -- ---- refusals of OPEN
 
-module _ (taken lost size capacity : WriterEnd → ℕ) (mask : Mask) (scans bytes : ℕ) where
-  pub refused_by : (f : JoinFault) (r : No) (a b : DeviceView WriterEnd) (s t : Option State) → r ≡ no_of f → first_refusal (join_faults a mask.bits s) ≡ Some f
-      → b ≡ a → t ≡ s → OpenMakes taken lost size capacity mask scans bytes a s (Err r) b t
+module _ (buffer : Buffer) where
+  pub refused_by : (f : JoinFault) (r : No) (a b : DeviceView WriterEnd) (s t : Option State) → r ≡ no_of f
+      → first_refusal (join_faults a buffer.mask.bits s) ≡ Some f → b ≡ a → t ≡ s → OpenMakes buffer a s (Err r) b t
   refused_by f r a b s t is refused same kept = rw is (by f refused)
     where
-      by : (f : JoinFault) → first_refusal (join_faults a mask.bits s) ≡ Some f → OpenMakes taken lost size capacity mask scans bytes a s (Err (no_of f)) b t
+      by : (f : JoinFault) → first_refusal (join_faults a buffer.mask.bits s) ≡ Some f → OpenMakes buffer a s (Err (no_of f)) b t
       by fault.Gone e = (rw e refl, same, kept)
       by fault.BadMask e = (rw e refl, same, kept)
       by fault.NoTrigger e = (rw e refl, same, kept)

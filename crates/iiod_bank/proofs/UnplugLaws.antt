@@ -8,7 +8,7 @@ use Rattle.iio_device.specs.declared.membership.Membership.{Membership}
 use Rattle.iio_device.specs.Device.{DeviceView, LeavesDevice}
 use Rattle.iio_device.specs.Members.{first_number, without}
 use Rattle.iio_kfifo.specs.Ends.{WriterEnd}
-use Rattle.iiod_bank.specs.Jobs.{Emptied, Left, gone}
+use Rattle.iiod_bank.specs.Jobs.{Emptied, Left, count_lost, gone}
 use Rattle.iiod_bank.specs.Lent.{Kept}
 use Rattle.iiod_bank.proofs.JobLemmas.{kept_along, kept_left, kept_same}
 
@@ -47,31 +47,30 @@ none_left [] o e d = refl
 none_left (m ∷ ms) o e d =
     absurd (let h : option_map (λ (x : Member). x.number) o ≡ None = ap (λ (p : Option Member). option_map (λ (x : Member). x.number) p) d in cc)
 
-module _ (lost : WriterEnd → ℕ) where
-  pub record IsEmptying (a : DeviceView WriterEnd) (s : State) (b : DeviceView WriterEnd) (t : State) : Type 0 where
-    pub members : ℕ
-    pub left : Left lost members a s b t
-    pub kept : Kept a b
+pub record IsEmptying (a : DeviceView WriterEnd) (s : State) (b : DeviceView WriterEnd) (t : State) : Type 0 where
+  pub members : ℕ
+  pub left : Left members a s b t
+  pub kept : Kept a b
 
-  pub begins : (a : DeviceView WriterEnd) (s : State) → IsEmptying a s a s
-  begins a s = record { members = 0; left = (refl, refl); kept = kept_same a a refl }
+pub begins : (a : DeviceView WriterEnd) (s : State) → IsEmptying a s a s
+begins a s = record { members = 0; left = (refl, refl); kept = kept_same a a refl }
 
-  pub goes_on : (a : DeviceView WriterEnd) (s : State) (c : DeviceView WriterEnd) (u : State) (b : DeviceView WriterEnd) (t : State) (number : ℕ)
-      (tail : WriterEnd)
-      → IsEmptying a s c u → first_number c.standing.members ≡ Some number → LeavesDevice lost number (Some tail) c b u t → IsEmptying a s b t
-  goes_on a s c u b t number tail now first left = record {
-    members = suc now.members;
-    left = (c, u, now.left, record { number = number; tail = tail; first = first; left = left });
-    kept = kept_twice a c b now.kept (kept_left lost number (Some tail) c b u t left);
-  }
+pub goes_on : (a : DeviceView WriterEnd) (s : State) (c : DeviceView WriterEnd) (u : State) (b : DeviceView WriterEnd) (t : State) (number : ℕ)
+    (tail : WriterEnd)
+    → IsEmptying a s c u → first_number c.standing.members ≡ Some number → LeavesDevice count_lost number (Some tail) c b u t → IsEmptying a s b t
+goes_on a s c u b t number tail now first left = record {
+  members = suc now.members;
+  left = (c, u, now.left, record { number = number; tail = tail; first = first; left = left });
+  kept = kept_twice a c b now.kept (kept_left number (Some tail) c b u t left);
+}
 
-  pub smaller : (c b : DeviceView WriterEnd) (u t : State) (number : ℕ) (tail : WriterEnd) → first_number c.standing.members ≡ Some number
-      → LeavesDevice lost number (Some tail) c b u t → length b.standing.members < length c.standing.members
-  smaller c b u t number tail first left = rw (ap (λ (v : DeviceView WriterEnd). v.standing.members) left.1) (fewer number c.standing.members first)
+pub smaller : (c b : DeviceView WriterEnd) (u t : State) (number : ℕ) (tail : WriterEnd) → first_number c.standing.members ≡ Some number
+    → LeavesDevice count_lost number (Some tail) c b u t → length b.standing.members < length c.standing.members
+smaller c b u t number tail first left = rw (ap (λ (v : DeviceView WriterEnd). v.standing.members) left.1) (fewer number c.standing.members first)
 
-  pub emptied : (a : DeviceView WriterEnd) (s : State) (x b : DeviceView WriterEnd) (t : State) → x ≡ gone a → IsEmptying x s b t → b.standing.members ≡ []
-      → Emptied lost a s b t
-  emptied a s x b t e now none = by (rw e at now)
-    where
-      by : IsEmptying (gone a) s b t → Emptied lost a s b t
-      by now = record { members = now.members; left = now.left; none = none }
+pub emptied : (a : DeviceView WriterEnd) (s : State) (x b : DeviceView WriterEnd) (t : State) → x ≡ gone a → IsEmptying x s b t → b.standing.members ≡ []
+    → Emptied a s b t
+emptied a s x b t e now none = by (rw e at now)
+  where
+    by : IsEmptying (gone a) s b t → Emptied a s b t
+    by now = record { members = now.members; left = now.left; none = none }

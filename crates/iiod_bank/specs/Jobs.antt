@@ -10,18 +10,20 @@ use Rattle.iio_attr.specs.declared.values.Value.{Value}
 use Rattle.iio_mask.specs.declared.Mask.{Mask}
 use Rattle.iio_event.specs.declared.event.EventData.{EventData}
 use Rattle.iio_event.specs.Monitor.{MonitorRecord, after_close, after_open, after_read, close_answer, open_answer, read_answer}
-use Rattle.iio_trigger.specs.Trigger.{State}
+use Rattle.iio_trigger.specs.Trigger.{Handed, State}
 use Rattle.iio_layout.specs.Layout.{scan_size}
 use Rattle.iio_layout.specs.Shape.{ShapeRecord, count_of}
+use Rattle.iio_device.specs.declared.handling.Handled.{Handled}
 use Rattle.iio_device.specs.declared.membership.Membership.{Membership}
-use Rattle.iio_device.specs.Device.{DeviceView, LeavesDevice, RemasksDevice, after_raw, after_trigger, after_write, at_site, device_joined, join_faults, raw_answer, remask_faults, trigger_answer, trigger_joined, write_answer}
+use Rattle.iio_device.specs.Device.{DeviceView, Handles, LeavesDevice, RemasksDevice, after_raw, after_trigger, after_write, at_site, device_joined, join_faults, raw_answer, remask_faults, trigger_answer, trigger_joined, write_answer}
 use Rattle.iio_device.specs.Members.{first_number, member_of}
 use Rattle.iio_device.specs.Site.{unplugged, with_monitor}
 use Rattle.iio_device.specs.Stored.{attr_value}
 use Rattle.iio_core.specs.Faults.{errno_of, held_errno, holder_errno, map_err, raw_value, remask_errno}
 use Rattle.iiod_commands.specs.declared.iio.No.{No}
 use Rattle.iiod_commands.specs.declared.iio.No.TheVariants.{Errno as NoErrno, Mem as NoMem}
-use Rattle.iio_kfifo.specs.Ends.{WriterEnd}
+use Rattle.iio_kfifo.specs.Ends.{Offers, WriterEnd}
+use Rattle.iio_kfifo.specs.Offers.{accepted, lost_in}
 use Rattle.iiod_bank.specs.declared.opening.Opened.{Opened}
 use Rattle.iiod_bank.specs.declared.remasking.Remasked.{Remasked}
 use Rattle.iiod_bank.specs.Received.{IsFresh}
@@ -30,6 +32,24 @@ use Rattle.iiod_bank.specs.Received.{IsFresh}
 abbrev pub refused : {A : Type 0} → Result A Errno → Result A No
 refused (Ok x) = Ok x
 refused (Err e) = Err (NoErrno e)
+
+-- ---- buffers
+
+-- a member's buffer: its mask, the most scans that wait in it, and the bytes of a scan
+pub record Buffer : Type 0 where
+  pub mask : Mask
+  pub scans : ℕ
+  pub bytes : ℕ
+
+abbrev pub buffer_of : Mask → (scans bytes : ℕ) → Buffer
+buffer_of mask scans bytes = record { mask = mask; scans = scans; bytes = bytes }
+
+-- the number of scans that a ring took, and of those that it lost, by its writer's end
+abbrev pub count_taken : WriterEnd → ℕ
+count_taken w = length (accepted w.knows.offers)
+
+abbrev pub count_lost : WriterEnd → ℕ
+count_lost w = lost_in w.knows.offers
 
 -- ---- OPEN
 
@@ -42,39 +62,38 @@ pub record MayOpenAt (mask size : ℕ) (shape : ShapeRecord) : Type 0 where
 abbrev pub open_refusal : ℕ → DeviceView WriterEnd → Option State → Option Errno
 open_refusal mask a s = option_and_then errno_of (first_refusal (join_faults a mask s))
 
--- a new queue's end for `scans` scans of `bytes` bytes, to which nothing was offered
-pub record IsNewEnd (taken lost size capacity : WriterEnd → ℕ) (bytes scans : ℕ) (w : WriterEnd) : Type 0 where
-  pub taken_none : taken w ≡ 0
-  pub lost_none : lost w ≡ 0
-  pub sized : size w ≡ bytes
-  pub bounded : capacity w ≡ scans
+-- the writer's end of a new ring for a buffer, to which nothing was offered
+pub record IsNewEnd (buffer : Buffer) (w : WriterEnd) : Type 0 where
+  pub taken_none : count_taken w ≡ 0
+  pub lost_none : count_lost w ≡ 0
+  pub sized : w.size ≡ buffer.bytes
+  pub bounded : w.capacity ≡ buffer.scans
 
 abbrev pub joined_at : DeviceView WriterEnd → Option State → Option State
 joined_at a s = option_map (λ (t : State). trigger_joined a t) s
 
-module _ (taken lost size capacity : WriterEnd → ℕ) where
-  -- the member is the device's next, and its queue's two ends are those of one new ring
-  pub record Accepted (mask : Mask) (scans bytes : ℕ) (a : DeviceView WriterEnd) (o : Opened) (b : DeviceView WriterEnd) : Type 0 where
-    pub numbered : o.member.number ≡ a.standing.next
-    pub reader : IsFresh bytes o.reader
-    pub tail : WriterEnd
-    pub end : IsNewEnd taken lost size capacity bytes scans tail
-    pub one_ring : tail.ring ≡ o.reader.ring
-    pub joins : b ≡ device_joined mask tail a
+-- the member is the device's next, and its queue's two ends are those of one new ring
+pub record Accepted (buffer : Buffer) (a : DeviceView WriterEnd) (o : Opened) (b : DeviceView WriterEnd) : Type 0 where
+  pub numbered : o.member.number ≡ a.standing.next
+  pub reader : IsFresh buffer.bytes o.reader
+  pub tail : WriterEnd
+  pub end : IsNewEnd buffer tail
+  pub one_ring : tail.ring ≡ o.reader.ring
+  pub joins : b ≡ device_joined buffer.mask tail a
 
-  abbrev pub OpenMakes : Mask → (scans bytes : ℕ) → DeviceView WriterEnd → Option State → Result Opened No → DeviceView WriterEnd → Option State → Type 0
-  OpenMakes mask scans bytes a s (Ok o) b t = (first_refusal (join_faults a mask.bits s) ≡ None) × Accepted mask scans bytes a o b × (t ≡ joined_at a s)
-  OpenMakes mask scans bytes a s (Err (NoErrno e)) b t = (open_refusal mask.bits a s ≡ Some e) × (b ≡ a) × (t ≡ s)
-  OpenMakes mask scans bytes a s (Err NoMem) b t = (open_refusal mask.bits a s ≡ None) × (b ≡ a) × (t ≡ s)
+abbrev pub OpenMakes : Buffer → DeviceView WriterEnd → Option State → Result Opened No → DeviceView WriterEnd → Option State → Type 0
+OpenMakes buffer a s (Ok o) b t = (first_refusal (join_faults a buffer.mask.bits s) ≡ None) × Accepted buffer a o b × (t ≡ joined_at a s)
+OpenMakes buffer a s (Err (NoErrno e)) b t = (open_refusal buffer.mask.bits a s ≡ Some e) × (b ≡ a) × (t ≡ s)
+OpenMakes buffer a s (Err NoMem) b t = (open_refusal buffer.mask.bits a s ≡ None) × (b ≡ a) × (t ≡ s)
 
 -- ---- CLOSE
 
 -- a device without a trigger has no member
-abbrev pub LeaveMakes : (WriterEnd → ℕ) → ℕ → DeviceView WriterEnd → Option State → Option WriterEnd → DeviceView WriterEnd → Option State → Type 0
-LeaveMakes lost number a (Some s) o b (Some t) = LeavesDevice lost number o a b s t
-LeaveMakes lost number a None o b None = (o ≡ None) × (member_of number a.standing.members ≡ None) × (b ≡ a)
-LeaveMakes lost number a (Some s) o b None = ⊥
-LeaveMakes lost number a None o b (Some t) = ⊥
+abbrev pub LeaveMakes : ℕ → DeviceView WriterEnd → Option State → Option WriterEnd → DeviceView WriterEnd → Option State → Type 0
+LeaveMakes number a (Some s) o b (Some t) = LeavesDevice count_lost number o a b s t
+LeaveMakes number a None o b None = (o ≡ None) × (member_of number a.standing.members ≡ None) × (b ≡ a)
+LeaveMakes number a (Some s) o b None = ⊥
+LeaveMakes number a None o b (Some t) = ⊥
 
 -- ---- REMASK
 
@@ -82,20 +101,19 @@ LeaveMakes lost number a None o b (Some t) = ⊥
 abbrev pub remask_refusal : (number mask : ℕ) → DeviceView WriterEnd → Option Errno
 remask_refusal number mask a = option_and_then remask_errno (first_refusal (remask_faults a number mask))
 
-module _ (taken lost size capacity : WriterEnd → ℕ) where
-  -- the member of that number begins anew under that mask; its two ends are those of one new ring; its old writer is returned
-  pub record Exchanged (number : ℕ) (mask : Mask) (scans bytes : ℕ) (a : DeviceView WriterEnd) (o : Remasked) (b : DeviceView WriterEnd) : Type 0 where
-    pub reader : IsFresh bytes o.reader
-    pub tail : WriterEnd
-    pub end : IsNewEnd taken lost size capacity bytes scans tail
-    pub one_ring : tail.ring ≡ o.reader.ring
-    pub remasks : RemasksDevice lost number mask tail (Ok o.before) a b
+-- the member of that number begins anew under the buffer's mask; its two ends are those of one new ring; its old writer is returned
+pub record Exchanged (number : ℕ) (buffer : Buffer) (a : DeviceView WriterEnd) (o : Remasked) (b : DeviceView WriterEnd) : Type 0 where
+  pub reader : IsFresh buffer.bytes o.reader
+  pub tail : WriterEnd
+  pub end : IsNewEnd buffer tail
+  pub one_ring : tail.ring ≡ o.reader.ring
+  pub remasks : RemasksDevice count_lost number buffer.mask tail (Ok o.before) a b
 
-  -- what the job makes of the device, by its answer
-  abbrev pub RemaskMakes : ℕ → Mask → (scans bytes : ℕ) → DeviceView WriterEnd → Result Remasked No → DeviceView WriterEnd → Type 0
-  RemaskMakes number mask scans bytes a (Ok o) b = Exchanged number mask scans bytes a o b
-  RemaskMakes number mask scans bytes a (Err (NoErrno e)) b = (remask_refusal number mask.bits a ≡ Some e) × (b ≡ a)
-  RemaskMakes number mask scans bytes a (Err NoMem) b = (remask_refusal number mask.bits a ≡ None) × (b ≡ a)
+-- what the job makes of the device, by its answer
+abbrev pub RemaskMakes : ℕ → Buffer → DeviceView WriterEnd → Result Remasked No → DeviceView WriterEnd → Type 0
+RemaskMakes number buffer a (Ok o) b = Exchanged number buffer a o b
+RemaskMakes number buffer a (Err (NoErrno e)) b = (remask_refusal number buffer.mask.bits a ≡ Some e) × (b ≡ a)
+RemaskMakes number buffer a (Err NoMem) b = (remask_refusal number buffer.mask.bits a ≡ None) × (b ≡ a)
 
 -- ---- attributes
 
@@ -126,8 +144,13 @@ SetTriggerMakes trigger a o b = (o ≡ refused (trigger_answer a)) × (b ≡ aft
 
 -- ---- the numbers of a queue
 
-abbrev pub LostMakes : (WriterEnd → ℕ) → ℕ → DeviceView WriterEnd → Option ℕ → DeviceView WriterEnd → Type 0
-LostMakes lost number a o b = (o ≡ option_map (λ (m : Membership WriterEnd). lost m.tail) (member_of number a.standing.members)) × (b ≡ a)
+abbrev pub LostMakes : ℕ → DeviceView WriterEnd → Option ℕ → DeviceView WriterEnd → Type 0
+LostMakes number a o b = (o ≡ option_map (λ (m : Membership WriterEnd). count_lost m.tail) (member_of number a.standing.members)) × (b ≡ a)
+
+-- ---- a trigger's entry
+
+abbrev pub HandleMakes : Handed → DeviceView WriterEnd → Handled → DeviceView WriterEnd → Type 0
+HandleMakes due a o b = Handles count_taken count_lost (λ w. w.size) (λ w. w.capacity) Offers due o a b
 
 -- ---- events
 
@@ -152,27 +175,26 @@ EvCloseMakes who a o b = (o ≡ refused (map_err holder_errno (close_answer nat_
 abbrev pub gone : DeviceView WriterEnd → DeviceView WriterEnd
 gone a = at_site (unplugged a.site) a
 
-module _ (lost : WriterEnd → ℕ) where
-  -- the first member leaves
-  pub record FirstLeaves (a : DeviceView WriterEnd) (s : State) (b : DeviceView WriterEnd) (t : State) : Type 0 where
-    pub number : ℕ
-    pub tail : WriterEnd
-    pub first : first_number a.standing.members ≡ Some number
-    pub left : LeavesDevice lost number (Some tail) a b s t
+-- the first member leaves
+pub record FirstLeaves (a : DeviceView WriterEnd) (s : State) (b : DeviceView WriterEnd) (t : State) : Type 0 where
+  pub number : ℕ
+  pub tail : WriterEnd
+  pub first : first_number a.standing.members ≡ Some number
+  pub left : LeavesDevice count_lost number (Some tail) a b s t
 
-  -- the first n members leave, one after another
-  abbrev pub Left : ℕ → DeviceView WriterEnd → State → DeviceView WriterEnd → State → Type 0
-  Left zero a s b t = (b ≡ a) × (t ≡ s)
-  Left (suc k) a s b t = (c : DeviceView WriterEnd) × (u : State) × Left k a s c u × FirstLeaves c u b t
+-- the first n members leave, one after another
+abbrev pub Left : ℕ → DeviceView WriterEnd → State → DeviceView WriterEnd → State → Type 0
+Left zero a s b t = (b ≡ a) × (t ≡ s)
+Left (suc k) a s b t = (c : DeviceView WriterEnd) × (u : State) × Left k a s c u × FirstLeaves c u b t
 
-  -- all members leave a device that was unplugged
-  pub record Emptied (a : DeviceView WriterEnd) (s : State) (b : DeviceView WriterEnd) (t : State) : Type 0 where
-    pub members : ℕ
-    pub left : Left members (gone a) s b t
-    pub none : b.standing.members ≡ []
+-- all members leave a device that was unplugged
+pub record Emptied (a : DeviceView WriterEnd) (s : State) (b : DeviceView WriterEnd) (t : State) : Type 0 where
+  pub members : ℕ
+  pub left : Left members (gone a) s b t
+  pub none : b.standing.members ≡ []
 
-  abbrev pub UnplugMakes : DeviceView WriterEnd → Option State → Bool → DeviceView WriterEnd → Option State → Type 0
-  UnplugMakes a (Some s) o b (Some t) = (o ≡ a.site.plugged) × Emptied a s b t
-  UnplugMakes a None o b None = (o ≡ a.site.plugged) × (b ≡ gone a) × (b.standing.members ≡ [])
-  UnplugMakes a (Some s) o b None = ⊥
-  UnplugMakes a None o b (Some t) = ⊥
+abbrev pub UnplugMakes : DeviceView WriterEnd → Option State → Bool → DeviceView WriterEnd → Option State → Type 0
+UnplugMakes a (Some s) o b (Some t) = (o ≡ a.site.plugged) × Emptied a s b t
+UnplugMakes a None o b None = (o ≡ a.site.plugged) × (b ≡ gone a) × (b.standing.members ≡ [])
+UnplugMakes a (Some s) o b None = ⊥
+UnplugMakes a None o b (Some t) = ⊥

@@ -11,7 +11,7 @@ use crate::bank::Work;
 use crate::front::HubFront;
 use iio_attr::{Attr, Fixed, Value};
 use iio_device::{Device, Member, Plug};
-use iio_kfifo::{Tail, Writer};
+use iio_kfifo::Writer;
 use iio_layout::Shape;
 use iio_sensor::Sensor;
 use iio_text::Errno;
@@ -178,7 +178,7 @@ impl Work for LostWork {
 
     ghost may = { λ w shape. Unit {0} };
 
-    ghost does = { λ w a o b. LostMakes ⟦<Writer as Tail>⟧.lost w.member.number a o b };
+    ghost does = { λ w a o b. LostMakes w.member.number a o b };
 
     fn fits(&self, _shape: &Shape) -> bool {
         true

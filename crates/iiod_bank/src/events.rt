@@ -1,14 +1,13 @@
 //! The jobs at a device's events, and the handling of a trigger's entry.
 
 ghost use Rattle.std.specs.Prelude.{◌≡◌, true};
-ghost use Rattle.iio_device.specs.Device.{Handles};
-ghost use Rattle.iiod_bank.specs.Jobs.{EvCloseMakes, EvOpenMakes, EvReadMakes};
+ghost use Rattle.iiod_bank.specs.Jobs.{EvCloseMakes, EvOpenMakes, EvReadMakes, HandleMakes};
 ghost use Rattle.iiod_bank.specs.Lent.{Kept, lent_by};
 
 use crate::bank::Work;
 use iio_device::{Device, Handled, Plug};
 use iio_event::EventData;
-use iio_kfifo::{Tail, Writer};
+use iio_kfifo::Writer;
 use iio_layout::Shape;
 use iio_sensor::Sensor;
 use iio_text::Errno;
@@ -109,15 +108,13 @@ pub struct HandleWork<'d> {
 }
 
 impl<'d> Work for HandleWork<'d> {
-    ghost use Rattle.iio_device.specs.Device.{Handles};
+    ghost use Rattle.iiod_bank.specs.Jobs.{HandleMakes};
 
     type Out = Handled;
 
     ghost may = { λ w shape. Unit {0} };
 
-    ghost does = { λ w a o b. Handles ⟦<Writer as Tail>⟧.taken ⟦<Writer as Tail>⟧.lost ⟦<Writer as Tail>⟧.size ⟦<Writer as Tail>⟧.capacity
-        ⟦<Writer as Tail>⟧.offer_gives
-        w.due.now o a b };
+    ghost does = { λ w a o b. HandleMakes w.due.now a o b };
 
     fn fits(&self, _shape: &Shape) -> bool {
         true

@@ -3,12 +3,12 @@
 ghost use Rattle.std.specs.Prelude.{◌≡◌, ◌==◌, ◌*◌, ◌^◌, ◌≤◌, ◌<◌, nat_lt, true, Some, None, is_some};
 ghost use Rattle.iio_layout.specs.Layout.{scan_size};
 ghost use Rattle.iio_kfifo.specs.declared.limits.TheConstants.{MAX_BYTES};
-ghost use Rattle.iiod_bank.specs.Jobs.{LeaveMakes, MayOpenAt, OpenMakes};
+ghost use Rattle.iiod_bank.specs.Jobs.{LeaveMakes, MayOpenAt, OpenMakes, buffer_of};
 ghost use Rattle.iiod_bank.specs.Lent.{Kept, lent_by};
 
 use crate::bank::DeviceJob;
 use iio_device::{Device, JoinRefused, Member, Plug};
-use iio_kfifo::{Reader, Tail, Writer, ring};
+use iio_kfifo::{Reader, Writer, ring};
 use iio_layout::{Shape, scan_size};
 use iio_mask::Mask;
 use iio_sensor::Sensor;
@@ -57,8 +57,8 @@ pub fn open_at(
     requires bytes { 1 ≤ size }
     requires fits { capacity * size ≤ MAX_BYTES }
     requires trigger { is_some device.old.core.trigger ≡ true }
-    ensures { OpenMakes ⟦<Writer as Tail>⟧.taken ⟦<Writer as Tail>⟧.lost ⟦<Writer as Tail>⟧.size ⟦<Writer as Tail>⟧.capacity mask capacity size
-        (lent_by ⟦<Plug as Sensor>⟧.driver device.old) (Some trigger.old) result (lent_by ⟦<Plug as Sensor>⟧.driver device.new) (Some trigger.new) }
+    ensures { OpenMakes (buffer_of mask capacity size) (lent_by ⟦<Plug as Sensor>⟧.driver device.old) (Some trigger.old) result
+        (lent_by ⟦<Plug as Sensor>⟧.driver device.new) (Some trigger.new) }
 {
     if let Err(fault) = device.may_join(mask, Some(trigger)) {
         return Err(no_of(fault));
@@ -78,8 +78,8 @@ pub fn open_at(
 // Refuses an OPEN at a device without a trigger.
 fn open_alone(device: &Device<Writer>, mask: Mask, _capacity: u32, _size: u32) -> Result<Opened, No>
     requires none { device.now.core.trigger ≡ None }
-    ensures { OpenMakes ⟦<Writer as Tail>⟧.taken ⟦<Writer as Tail>⟧.lost ⟦<Writer as Tail>⟧.size ⟦<Writer as Tail>⟧.capacity mask _capacity _size
-        (lent_by ⟦<Plug as Sensor>⟧.driver device.now) None result (lent_by ⟦<Plug as Sensor>⟧.driver device.now) None }
+    ensures { OpenMakes (buffer_of mask _capacity _size) (lent_by ⟦<Plug as Sensor>⟧.driver device.now) None result
+        (lent_by ⟦<Plug as Sensor>⟧.driver device.now) None }
 {
     match device.may_join(mask, None) {
         Err(fault) => Err(no_of(fault)),
@@ -117,15 +117,13 @@ impl OpenJob {
 }
 
 impl DeviceJob for OpenJob {
-    ghost use Rattle.iiod_bank.specs.Jobs.{MayOpenAt, OpenMakes};
+    ghost use Rattle.iiod_bank.specs.Jobs.{MayOpenAt, OpenMakes, buffer_of};
 
     type Out = Result<Opened, No>;
 
     ghost may = { λ j shape. MayOpenAt j.mask.bits j.size shape };
 
-    ghost makes = { λ j a s o b t. OpenMakes ⟦<Writer as Tail>⟧.taken ⟦<Writer as Tail>⟧.lost ⟦<Writer as Tail>⟧.size ⟦<Writer as Tail>⟧.capacity
-        j.mask j.capacity j.size
-        a s o b t };
+    ghost makes = { λ j a s o b t. OpenMakes (buffer_of j.mask j.capacity j.size) a s o b t };
 
     fn fits(&self, shape: &Shape) -> bool {
         is_sized(shape, self.mask, self.size)
@@ -160,7 +158,7 @@ impl DeviceJob for LeaveJob {
 
     ghost may = { λ j shape. Unit {0} };
 
-    ghost makes = { λ j a s o b t. LeaveMakes ⟦<Writer as Tail>⟧.lost j.member.number a s o b t };
+    ghost makes = { λ j a s o b t. LeaveMakes j.member.number a s o b t };
 
     fn fits(&self, _shape: &Shape) -> bool {
         true

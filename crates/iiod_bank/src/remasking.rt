@@ -2,13 +2,13 @@
 
 ghost use Rattle.std.specs.Prelude.{◌≡◌, ◌*◌, ◌≤◌, true};
 ghost use Rattle.iio_kfifo.specs.declared.limits.TheConstants.{MAX_BYTES};
-ghost use Rattle.iiod_bank.specs.Jobs.{MayOpenAt, RemaskMakes};
+ghost use Rattle.iiod_bank.specs.Jobs.{MayOpenAt, RemaskMakes, buffer_of};
 ghost use Rattle.iiod_bank.specs.Lent.{Kept, lent_by};
 
 use crate::bank::Work;
 use crate::opening::is_sized;
 use iio_device::{Device, Member, Plug, RemaskRefused};
-use iio_kfifo::{Reader, Tail, Writer, ring};
+use iio_kfifo::{Reader, Writer, ring};
 use iio_layout::Shape;
 use iio_mask::Mask;
 use iio_sensor::Sensor;
@@ -35,9 +35,8 @@ fn remask_at(
     requires some { 1 ≤ capacity }
     requires bytes { 1 ≤ size }
     requires fits { capacity * size ≤ MAX_BYTES }
-    ensures { RemaskMakes ⟦<Writer as Tail>⟧.taken ⟦<Writer as Tail>⟧.lost ⟦<Writer as Tail>⟧.size ⟦<Writer as Tail>⟧.capacity member.now.number mask capacity
-        size
-        (lent_by ⟦<Plug as Sensor>⟧.driver device.old) result (lent_by ⟦<Plug as Sensor>⟧.driver device.new) }
+    ensures { RemaskMakes member.now.number (buffer_of mask capacity size) (lent_by ⟦<Plug as Sensor>⟧.driver device.old) result
+        (lent_by ⟦<Plug as Sensor>⟧.driver device.new) }
 {
     if let Err(fault) = device.may_remask(member, mask) {
         return Err(remask_no(fault));
@@ -86,15 +85,13 @@ impl RemaskWork {
 }
 
 impl Work for RemaskWork {
-    ghost use Rattle.iiod_bank.specs.Jobs.{MayOpenAt, RemaskMakes};
+    ghost use Rattle.iiod_bank.specs.Jobs.{MayOpenAt, RemaskMakes, buffer_of};
 
     type Out = Result<Remasked, No>;
 
     ghost may = { λ w shape. MayOpenAt w.mask.bits w.size shape };
 
-    ghost does = { λ w a o b. RemaskMakes ⟦<Writer as Tail>⟧.taken ⟦<Writer as Tail>⟧.lost ⟦<Writer as Tail>⟧.size ⟦<Writer as Tail>⟧.capacity
-        w.member.number w.mask
-        w.capacity w.size a o b };
+    ghost does = { λ w a o b. RemaskMakes w.member.number (buffer_of w.mask w.capacity w.size) a o b };
 
     fn fits(&self, shape: &Shape) -> bool {
         is_sized(shape, self.mask, self.size)

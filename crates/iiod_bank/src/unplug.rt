@@ -6,7 +6,7 @@ ghost use Rattle.iiod_bank.specs.Lent.{Kept, lent_by};
 
 use crate::bank::DeviceJob;
 use iio_device::{Device, Plug};
-use iio_kfifo::{Tail, Writer};
+use iio_kfifo::Writer;
 use iio_layout::Shape;
 use iio_sensor::Sensor;
 use iio_trigger::Trigger;
@@ -22,7 +22,7 @@ impl DeviceJob for UnplugJob {
 
     ghost may = { λ j shape. Unit {0} };
 
-    ghost makes = { λ j a s o b t. UnplugMakes ⟦<Writer as Tail>⟧.lost a s o b t };
+    ghost makes = { λ j a s o b t. UnplugMakes a s o b t };
 
     fn fits(&self, _shape: &Shape) -> bool {
         true

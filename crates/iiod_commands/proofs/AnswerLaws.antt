@@ -17,12 +17,11 @@ use Rattle.iiod_commands.specs.declared.manner.Manner.{Manner}
 use Rattle.iiod_commands.specs.declared.manner.Progress.TheVariants.{Done}
 use Rattle.iiod_commands.specs.Acts.{Acts, act, help_reply, only, version_reply, zero_reply}
 use Rattle.iiod_commands.specs.Answers.{Fits, IsEvent, IsLong, IsText, IsTrigger, Prints, ServesBy, answer_by, reply_of}
-use Rattle.iiod_commands.specs.Client.{ClientRecord}
+use Rattle.iiod_commands.specs.Client.{ClientRecord, State, Answering, answering}
 use Rattle.iio_core.specs.Front.{Front, find_device}
 use Rattle.iio_core.specs.Machine.{Machine}
 use Rattle.iiod_commands.specs.Moves.{AnswersAlone, AnswersAs, Moves, Serves}
 use Rattle.iiod_commands.specs.Performs.{Comes, IsAllowed, IsAnswerOf, IsAtOnce, IsWhole, Performs, reply_by}
-use Rattle.iiod_commands.specs.Seat.{Trace}
 use Rattle.iiod_commands.specs.Targets.{written_by}
 use Rattle.iiod_commands.proofs.ServeLaws.{all_comes, allowed, short_at, short_seat}
 
@@ -38,24 +37,26 @@ only_comes m client (Value t) w = (m, refl, refl)
 only_comes m client (Raw t) w = (m, refl, refl)
 only_comes m client (Block a b c d) w = (m, refl, refl)
 
-pub serves_only : (front : Front) (told : Option Machine) (client : ClientRecord) (traces : List (Option Trace)) (item : Item) (reply : Reply) → IsWhole reply
-    → AnswersAlone front client item reply → AnswersAs front item reply
-    → ((m : Machine) → act front m client item ≡ only reply m client) → Moves front client traces item reply client traces
-    → Serves front told client traces item reply told client traces
-serves_only front told client traces item reply w alone formed is moves =
-    record { alone = alone; formed = formed; exact = all_comes front told told client client item (λ m. only reply m client) reply is (by told); moves = moves }
+pub serves_only : (front : Front) (a : State) (item : Item) (reply : Reply) → IsWhole reply → AnswersAlone front a.client item reply
+    → AnswersAs front item reply
+    → ((m : Machine) → act front m a.client item ≡ only reply m a.client) → Moves front a item reply a → Serves front a item reply a
+serves_only front a item reply w alone formed is moves = record {
+  alone = alone;
+  formed = formed;
+  exact = all_comes front a.told a.told a.client a.client item (λ m. only reply m a.client) reply is (by a.told);
+  moves = moves;
+}
   where
-    by : (told : Option Machine) → IfSome told (λ m. Comes m client (only reply m client) reply told client)
+    by : (told : Option Machine) → IfSome told (λ m. Comes m a.client (only reply m a.client) reply told a.client)
     by None = tt
-    by (Some m) = only_comes m client reply w
+    by (Some m) = only_comes m a.client reply w
 
 -- memory ran out before anything had changed
-pub serves_short : (front : Front) (told : Option Machine) (client : ClientRecord) (traces : List (Option Trace)) (item : Item)
-    → AnswersAlone front client item NoMemory → Moves front client traces item NoMemory client traces
-    → Serves front told client traces item NoMemory told client traces
-serves_short front told client traces item alone moves = record { alone = alone; formed = tt; exact = by told; moves = moves }
+pub serves_short : (front : Front) (a : State) (item : Item) → AnswersAlone front a.client item NoMemory → Moves front a item NoMemory a
+    → Serves front a item NoMemory a
+serves_short front a item alone moves = record { alone = alone; formed = tt; exact = by a.told; moves = moves }
   where
-    by : (told : Option Machine) → IfSome told (λ m. Acts front m client item NoMemory told client)
+    by : (told : Option Machine) → IfSome told (λ m. Acts front m a.client item NoMemory told a.client)
     by None = tt
     by (Some m) = (refl, refl)
 
@@ -77,31 +78,27 @@ timeout_is : (front : Front) (m : Machine) (client : ClientRecord) (n : ℕ) →
 unfolding act
 timeout_is front m client n = refl
 
-pub help_serves : (front : Front) (told : Option Machine) (client : ClientRecord) (traces : List (Option Trace))
-    → ServesBy front told client traces (Said (Ok Help)) (Ok answer.Help) told client traces
-help_serves front told client traces = record {
-  served = serves_only front told client traces (Said (Ok Help)) help_reply tt (inl refl) tt (λ m. help_is front m client) (refl, refl);
-  short = λ long. serves_short front told client traces (Said (Ok Help)) (inr refl) (refl, refl);
+pub help_serves : (front : Front) (a : State) → ServesBy front a (Said (Ok Help)) (Ok answer.Help) a
+help_serves front a = record {
+  served = serves_only front a (Said (Ok Help)) help_reply tt (inl refl) tt (λ m. help_is front m a.client) (refl, refl);
+  short = λ long. serves_short front a (Said (Ok Help)) (inr refl) (refl, refl);
 }
 
-pub version_serves : (front : Front) (told : Option Machine) (client : ClientRecord) (traces : List (Option Trace))
-    → ServesBy front told client traces (Said (Ok Version)) (Ok answer.Version) told client traces
-version_serves front told client traces = record {
-  served = serves_only front told client traces (Said (Ok Version)) version_reply tt (inl refl) tt (λ m. version_is front m client) (refl, refl);
-  short = λ long. serves_short front told client traces (Said (Ok Version)) (inr refl) (refl, refl);
+pub version_serves : (front : Front) (a : State) → ServesBy front a (Said (Ok Version)) (Ok answer.Version) a
+version_serves front a = record {
+  served = serves_only front a (Said (Ok Version)) version_reply tt (inl refl) tt (λ m. version_is front m a.client) (refl, refl);
+  short = λ long. serves_short front a (Said (Ok Version)) (inr refl) (refl, refl);
 }
 
-pub print_serves : (front : Front) (told : Option Machine) (client : ClientRecord) (traces : List (Option Trace))
-    → ServesBy front told client traces (Said (Ok Print)) (Ok answer.Context) told client traces
-print_serves front told client traces = record {
-  served = serves_only front told client traces (Said (Ok Print)) (Value front.context) tt (inl refl) tt (λ m. print_is front m client) (refl, refl);
-  short = λ long. serves_short front told client traces (Said (Ok Print)) (inr refl) (refl, refl);
+pub print_serves : (front : Front) (a : State) → ServesBy front a (Said (Ok Print)) (Ok answer.Context) a
+print_serves front a = record {
+  served = serves_only front a (Said (Ok Print)) (Value front.context) tt (inl refl) tt (λ m. print_is front m a.client) (refl, refl);
+  short = λ long. serves_short front a (Said (Ok Print)) (inr refl) (refl, refl);
 }
 
-pub timeout_serves : (front : Front) (told : Option Machine) (client : ClientRecord) (traces : List (Option Trace)) (n : ℕ)
-    → ServesBy front told client traces (Said (Ok (Timeout n))) (Ok (answer.Number 0)) told client traces
-timeout_serves front told client traces n = record {
-  served = serves_only front told client traces (Said (Ok (Timeout n))) zero_reply tt (inl refl) tt (λ m. timeout_is front m client n) (refl, refl);
+pub timeout_serves : (front : Front) (a : State) (n : ℕ) → ServesBy front a (Said (Ok (Timeout n))) (Ok (answer.Number 0)) a
+timeout_serves front a n = record {
+  served = serves_only front a (Said (Ok (Timeout n))) zero_reply tt (inl refl) tt (λ m. timeout_is front m a.client n) (refl, refl);
   short = λ long. absurd long;
 }
 
@@ -111,14 +108,13 @@ empty_is : (front : Front) (m : Machine) (client : ClientRecord) → act front m
 unfolding act
 empty_is front m client = refl
 
-pub empty_performs : (manner : Manner) (front : Front) (told : Option Machine) (client : ClientRecord) (traces : List (Option Trace)) (before : List ℕ)
-    → Performs manner front told told client traces (Said (Err Empty)) client traces before before Done
-empty_performs manner front told client traces before = (
+pub empty_performs : (manner : Manner) (front : Front) (x : Answering) → Performs manner front x (Said (Err Empty)) x Done
+empty_performs manner front x = (
   Nothing,
-  sym (append-nil before),
+  sym (append-nil x.out),
   allowed manner Nothing tt,
   tt,
-  serves_only front told client traces (Said (Err Empty)) Nothing tt refl tt (λ m. empty_is front m client) (refl, refl),
+  serves_only front x.state (Said (Err Empty)) Nothing tt refl tt (λ m. empty_is front m x.state.client) (refl, refl),
 )
 
 refused_is : (front : Front) (m : Machine) (client : ClientRecord) (why : Refused) → why ≢ Empty
@@ -140,39 +136,35 @@ has_word why (inl u) e = absurd (cc)
 has_word why (inr (inl s)) e = absurd (cc)
 has_word why (inr (inr n)) e = absurd (cc)
 
-pub serves_refused : (front : Front) (told : Option Machine) (client : ClientRecord) (traces : List (Option Trace)) (why : Refused) → why ≢ Empty
-    → Serves front told client traces (Said (Err why)) (Refusal EINVAL) told client traces
-serves_refused front told client traces why some =
-    serves_only front told client traces (Said (Err why)) (Refusal EINVAL) tt (refused_alone front client why some) tt (λ m. refused_is front m client why some)
-    (refl, refl)
+pub serves_refused : (front : Front) (a : State) (why : Refused) → why ≢ Empty → Serves front a (Said (Err why)) (Refusal EINVAL) a
+serves_refused front a why some =
+    serves_only front a (Said (Err why)) (Refusal EINVAL) tt (refused_alone front a.client why some) tt (λ m. refused_is front m a.client why some) (refl, refl)
 
 -- ---- the answers to a command at a device
 
 -- 0
-pub by_zero : (front : Front) (told told' : Option Machine) (client client' : ClientRecord) (traces traces' : List (Option Trace)) (item : Item)
-    (r : Result ⊤ No)
-    → Serves front told client traces item (reply_by r) told' client' traces' → ServesBy front told client traces item (answer_by 0 r) told' client' traces'
-by_zero front told told' client client' traces traces' item (Ok done) s = record { served = s; short = λ long. absurd long }
-by_zero front told told' client client' traces traces' item (Err why) s = record { served = s; short = λ long. absurd long }
+pub by_zero : (front : Front) (a b : State) (item : Item) (r : Result ⊤ No)
+    → Serves front a item (reply_by r) b → ServesBy front a item (answer_by 0 r) b
+by_zero front a b item (Ok done) s = record { served = s; short = λ long. absurd long }
+by_zero front a b item (Err why) s = record { served = s; short = λ long. absurd long }
 
 -- the number of a payload's bytes
-pub by_count : (front : Front) (told told' : Option Machine) (client client' : ClientRecord) (traces traces' : List (Option Trace)) (item : Item) (n : ℕ)
-    (r : Result ⊤ No)
-    → Serves front told client traces item (written_by n r) told' client' traces' → ServesBy front told client traces item (answer_by n r) told' client' traces'
-by_count front told told' client client' traces traces' item n (Ok done) s = record { served = s; short = λ long. absurd long }
-by_count front told told' client client' traces traces' item n (Err (NoErrno e)) s = record { served = s; short = λ long. absurd long }
-by_count front told told' client client' traces traces' item n (Err NoMem) s = record { served = s; short = λ long. absurd long }
+pub by_count : (front : Front) (a b : State) (item : Item) (n : ℕ) (r : Result ⊤ No)
+    → Serves front a item (written_by n r) b → ServesBy front a item (answer_by n r) b
+by_count front a b item n (Ok done) s = record { served = s; short = λ long. absurd long }
+by_count front a b item n (Err (NoErrno e)) s = record { served = s; short = λ long. absurd long }
+by_count front a b item n (Err NoMem) s = record { served = s; short = λ long. absurd long }
 
 -- a refusal
-pub by_no : (front : Front) (told told' : Option Machine) (client client' : ClientRecord) (traces traces' : List (Option Trace)) (item : Item) (why : No)
-    → Serves front told client traces item (reply_by (Err why)) told' client' traces' → ServesBy front told client traces item (Err why) told' client' traces'
-by_no front told told' client client' traces traces' item why s = record { served = s; short = λ long. absurd long }
+pub by_no : (front : Front) (a b : State) (item : Item) (why : No)
+    → Serves front a item (reply_by (Err why)) b → ServesBy front a item (Err why) b
+by_no front a b item why s = record { served = s; short = λ long. absurd long }
 
 -- the number of the bytes that were taken
-pub by_taken : (front : Front) (told told' : Option Machine) (client client' : ClientRecord) (traces traces' : List (Option Trace)) (item : Item) (n : ℕ)
-    → Serves front told client traces item (Number (pos n)) told' client' traces'
-    → ServesBy front told client traces item (Ok (answer.Number n)) told' client' traces'
-by_taken front told told' client client' traces traces' item n s = record { served = s; short = λ long. absurd long }
+pub by_taken : (front : Front) (a b : State) (item : Item) (n : ℕ)
+    → Serves front a item (Number (pos n)) b
+    → ServesBy front a item (Ok (answer.Number n)) b
+by_taken front a b item n s = record { served = s; short = λ long. absurd long }
 
 -- the value of an attribute
 not_text : (r : Result Answer No) → IsText r → IsLong r → ⊥
@@ -182,11 +174,10 @@ not_text (Ok answer.Context) t long = t
 not_text (Ok (answer.Trigger k)) t long = t
 not_text r t long = long
 
-pub by_text : (front : Front) (told told' : Option Machine) (client client' : ClientRecord) (traces traces' : List (Option Trace)) (item : Item)
-    (r : Result Answer No)
+pub by_text : (front : Front) (a b : State) (item : Item) (r : Result Answer No)
     → IsText r
-    → Serves front told client traces item (reply_of front r) told' client' traces' → ServesBy front told client traces item r told' client' traces'
-by_text front told told' client client' traces traces' item r t s = record { served = s; short = λ long. absurd (not_text r t long) }
+    → Serves front a item (reply_of front r) b → ServesBy front a item r b
+by_text front a b item r t s = record { served = s; short = λ long. absurd (not_text r t long) }
 
 pub text_fits : (r : Result Answer No) → IsText r → Fits r
 text_fits (Ok (answer.Fixed digits)) t = t
@@ -215,11 +206,10 @@ not_event (Ok answer.Context) t long = t
 not_event (Ok (answer.Trigger k)) t long = t
 not_event r t long = long
 
-pub by_event : (front : Front) (told told' : Option Machine) (client client' : ClientRecord) (traces traces' : List (Option Trace)) (item : Item)
-    (r : Result Answer No)
+pub by_event : (front : Front) (a b : State) (item : Item) (r : Result Answer No)
     → IsEvent r
-    → Serves front told client traces item (reply_of front r) told' client' traces' → ServesBy front told client traces item r told' client' traces'
-by_event front told told' client client' traces traces' item r t s = record { served = s; short = λ long. absurd (not_event r t long) }
+    → Serves front a item (reply_of front r) b → ServesBy front a item r b
+by_event front a b item r t s = record { served = s; short = λ long. absurd (not_event r t long) }
 
 pub event_fits : (r : Result Answer No) → IsEvent r → Fits r
 event_fits (Ok (answer.Fixed digits)) t = absurd t
@@ -301,24 +291,20 @@ prints_short manner front a before mid after (Err mem) long m t x = tt
 
 -- ---- an item with its answer
 
-pub performed : (manner : Manner) (front : Front) (told told' : Option Machine) (client : ClientRecord) (traces : List (Option Trace)) (item : Item)
-    (client' : ClientRecord) (traces' : List (Option Trace)) (before after : List ℕ) (r : Result Answer No)
-    → ((reply : Reply) → IsAnswerOf item manner reply) → ServesBy front told client traces item r told' client' traces' → Prints manner front r before after
-    → Performs manner front told told' client traces item client' traces' before after Done
-performed manner front told told' client traces item client' traces' before after r any s p = (p.reply, p.text, p.allowed, any p.reply, by p.reply p.is)
+pub performed : (manner : Manner) (front : Front) (x : Answering) (item : Item) (y : Answering) (r : Result Answer No)
+    → ((reply : Reply) → IsAnswerOf item manner reply) → ServesBy front x.state item r y.state → Prints manner front r x.out y.out
+    → Performs manner front x item y Done
+performed manner front x item y r any s p = (p.reply, p.text, p.allowed, any p.reply, by p.reply p.is)
   where
-    by : (reply : Reply) → (reply ≡ reply_of front r) ⊎ ((reply ≡ NoMemory) × IsLong r) → Serves front told client traces item reply told' client' traces'
+    by : (reply : Reply) → (reply ≡ reply_of front r) ⊎ ((reply ≡ NoMemory) × IsLong r) → Serves front x.state item reply y.state
     by reply (inl e) = rw e s.served
     by reply (inr e) = rw e.0 (s.short e.1)
 
-pub performs : (manner : Manner) (front : Front) (told told' : Option Machine) (client : ClientRecord) (traces : List (Option Trace)) (item : Item)
-    (client' : ClientRecord) (traces' : List (Option Trace)) (before after : List ℕ) (r : Result Answer No) (printed : Result ⊤ Mem)
-    → ((reply : Reply) → IsAnswerOf item manner reply) → ServesBy front told client traces item r told' client' traces'
-    → OnOk printed (Prints manner front r before after)
-    → OnOk printed (Performs manner front told told' client traces item client' traces' before after Done)
-performs manner front told told' client traces item client' traces' before after r (Ok done) any s p =
-    performed manner front told told' client traces item client' traces' before after r any s p
-performs manner front told told' client traces item client' traces' before after r (Err mem) any s p = tt
+pub performs : (manner : Manner) (front : Front) (x : Answering) (item : Item) (y : Answering) (r : Result Answer No) (printed : Result ⊤ Mem)
+    → ((reply : Reply) → IsAnswerOf item manner reply) → ServesBy front x.state item r y.state → OnOk printed (Prints manner front r x.out y.out)
+    → OnOk printed (Performs manner front x item y Done)
+performs manner front x item y r (Ok done) any s p = performed manner front x item y r any s p
+performs manner front x item y r (Err mem) any s p = tt
 
 -- a command that is answered at once doesn't wait
 pub at_once_answer : (manner : Manner) (said : Result Command Refused) → IsAtOnce said → (reply : Reply) → IsAnswerOf (Said said) manner reply
@@ -327,35 +313,34 @@ at_once_answer manner said once reply = tt
 
 -- ---- memory runs out before anything is done
 
-short_at_once : (front : Front) (client : ClientRecord) (traces : List (Option Trace)) (command : Command) → IsAtOnce (Ok command)
-    → AnswersAlone front client (Said (Ok command)) NoMemory × Moves front client traces (Said (Ok command)) NoMemory client traces
-short_at_once front client traces Exit once = absurd once
-short_at_once front client traces (Write device target count) once = absurd once
-short_at_once front client traces (WriteBuf device count) once = absurd once
-short_at_once front client traces (ReadBuf device asked) once = absurd once
-short_at_once front client traces Help once = (inr refl, (refl, refl))
-short_at_once front client traces Version once = (inr refl, (refl, refl))
-short_at_once front client traces Print once = (inr refl, (refl, refl))
-short_at_once front client traces (Timeout n) once = (inr refl, (refl, refl))
-short_at_once front client traces (Open device samples text cyclic) once = (short_at (find_device front device), (refl, refl))
-short_at_once front client traces (Close device) once = (short_seat client.seats (find_device front device), (refl, refl))
-short_at_once front client traces (Read device place name) once = (short_at (find_device front device), (refl, refl))
-short_at_once front client traces (GetTrig device) once = (short_at (find_device front device), (refl, refl))
-short_at_once front client traces (SetTrig device name) once = (short_at (find_device front device), (refl, refl))
-short_at_once front client traces (SetBuffers device n) once = (short_at (find_device front device), (refl, refl))
-short_at_once front client traces (Remask device text) once = (short_at (find_device front device), (refl, refl))
-short_at_once front client traces (EvOpen device) once = (short_at (find_device front device), (refl, refl))
-short_at_once front client traces (EvRead device) once = (short_at (find_device front device), (refl, refl))
-short_at_once front client traces (EvClose device) once = (short_at (find_device front device), (refl, refl))
+short_at_once : (front : Front) (a : State) (command : Command) → IsAtOnce (Ok command)
+    → AnswersAlone front a.client (Said (Ok command)) NoMemory × Moves front a (Said (Ok command)) NoMemory a
+short_at_once front a Exit once = absurd once
+short_at_once front a (Write device target count) once = absurd once
+short_at_once front a (WriteBuf device count) once = absurd once
+short_at_once front a (ReadBuf device asked) once = absurd once
+short_at_once front a Help once = (inr refl, (refl, refl))
+short_at_once front a Version once = (inr refl, (refl, refl))
+short_at_once front a Print once = (inr refl, (refl, refl))
+short_at_once front a (Timeout n) once = (inr refl, (refl, refl))
+short_at_once front a (Open device samples text cyclic) once = (short_at (find_device front device), (refl, refl))
+short_at_once front a (Close device) once = (short_seat a.client.seats (find_device front device), (refl, refl))
+short_at_once front a (Read device place name) once = (short_at (find_device front device), (refl, refl))
+short_at_once front a (GetTrig device) once = (short_at (find_device front device), (refl, refl))
+short_at_once front a (SetTrig device name) once = (short_at (find_device front device), (refl, refl))
+short_at_once front a (SetBuffers device n) once = (short_at (find_device front device), (refl, refl))
+short_at_once front a (Remask device text) once = (short_at (find_device front device), (refl, refl))
+short_at_once front a (EvOpen device) once = (short_at (find_device front device), (refl, refl))
+short_at_once front a (EvRead device) once = (short_at (find_device front device), (refl, refl))
+short_at_once front a (EvClose device) once = (short_at (find_device front device), (refl, refl))
 
-pub performs_short : (manner : Manner) (front : Front) (told : Option Machine) (client : ClientRecord) (traces : List (Option Trace)) (command : Command)
-    (before after : List ℕ) (r : Result ⊤ Mem) → IsAtOnce (Ok command)
+pub performs_short : (manner : Manner) (front : Front) (a : State) (command : Command) (before after : List ℕ) (r : Result ⊤ Mem) → IsAtOnce (Ok command)
     → OnOk r (after ≡ before ++ text_of NoMemory) → OnOk r (IsAllowed manner NoMemory)
-    → OnOk r (Performs manner front told told client traces (Said (Ok command)) client traces before after Done)
-performs_short manner front told client traces command before after (Ok done) once t a =
-    let short = short_at_once front client traces command once in
-    (NoMemory, t, a, at_once_answer manner (Ok command) once NoMemory, serves_short front told client traces (Said (Ok command)) short.0 short.1)
-performs_short manner front told client traces command before after (Err mem) once t a = tt
+    → OnOk r (Performs manner front (answering a before) (Said (Ok command)) (answering a after) Done)
+performs_short manner front a command before after (Ok done) once t may =
+    let short = short_at_once front a command once in
+    (NoMemory, t, may, at_once_answer manner (Ok command) once NoMemory, serves_short front a (Said (Ok command)) short.0 short.1)
+performs_short manner front a command before after (Err mem) once t may = tt
 
 pub short_written : (front : Front) (client : ClientRecord) (device : List ℕ) (target : Option Target) (payload : List ℕ)
     → AnswersAlone front client (Written device target payload) NoMemory

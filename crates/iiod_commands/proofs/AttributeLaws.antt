@@ -27,17 +27,18 @@ use Rattle.iiod_commands.specs.declared.iio.No.TheVariants.{Errno as NoErrno, Me
 use Rattle.iiod_commands.specs.Acts.{Acted, act, at_device, only, refused, read_attribute_at, read_buffer_attribute, read_buffer_attribute_at, read_device_attribute, read_named, write_assignment, write_attribute_at, written}
 use Rattle.iiod_commands.specs.Attributes.{Assignment, Named, buffer_number, found, is_of_buffer, write_found}
 use Rattle.iio_core.specs.Calls.{raw_answer, raw_by, read_attr_of, write_attr_of}
-use Rattle.iiod_commands.specs.Client.{AllHeld, ClientRecord, IsHeld, seat_state_of, place_of, seats_of, with_seats}
+use Rattle.iiod_commands.specs.Client.{AllHeld, ClientRecord, IsHeld, seat_state_of, place_of, seats_of, with_seats, State, state}
 use Rattle.iio_core.specs.Front.{Front, find_device, kind_at, shape_at}
 use Rattle.iio_core.specs.Machine.{Machine, MemberId, Station, is_plugged, lost_of, queue_of, station_at}
 use Rattle.iiod_commands.specs.Moves.{AnswersAs, Serves}
 use Rattle.iiod_commands.specs.Performs.{Comes}
-use Rattle.iiod_commands.specs.Seat.{Answers, SeatRecord, Trace, seat_id}
+use Rattle.iiod_commands.specs.Seat.{Answers, SeatRecord, seat_id}
 use Rattle.iiod_commands.specs.Targets.{written_by}
 use Rattle.iiod_commands.proofs.HeldLaws.{id_is}
 use Rattle.iiod_commands.proofs.AnswerLaws.{serves_only}
 use Rattle.iiod_commands.proofs.SeatsLaws.{get_is}
 use Rattle.iiod_commands.proofs.ServeLaws.{all_comes, all_refused, serves_at}
+use Rattle.iiod_commands.specs.Reading.{reading}
 
 -- ---- an attribute of the device
 
@@ -162,15 +163,13 @@ wrote (Some m) told' client dev count x (Err NoMem) a = (a, refl)
 
 -- ---- the commands
 
-pub serves_read_attribute : (front : Front) (told told' : Option Machine) (client client' : ClientRecord) (traces traces' : List (Option Trace))
-    (device : List ℕ)
-    (place : Place) (name : Option (List ℕ)) (dev : ℕ) (reply : Reply)
+pub serves_read_attribute : (front : Front) (a b : State) (device : List ℕ) (place : Place) (name : Option (List ℕ)) (dev : ℕ) (reply : Reply)
     → Some dev ≡ find_device front device
-    → IfSome told (λ m. Comes m client (read_attribute_at front m client place name dev) reply told' client)
-    → client' ≡ client → traces' ≡ traces → AnswersAs front (Said (Ok (Read device place name))) reply
-    → Serves front told client traces (Said (Ok (Read device place name))) reply told' client' traces'
-serves_read_attribute front told told' client client' traces traces' device place name dev reply e c d t formed =
-    rw d (serves_at front told told' client client traces traces' (Read device place name) dev reply e (rw (sym e) tt) formed c (refl, t))
+    → IfSome a.told (λ m. Comes m a.client (read_attribute_at front m a.client place name dev) reply b.told a.client)
+    → b.client ≡ a.client → b.traces ≡ a.traces → AnswersAs front (Said (Ok (Read device place name))) reply
+    → Serves front a (Said (Ok (Read device place name))) reply b
+serves_read_attribute front a b device place name dev reply e c d t formed =
+    serves_at front a b (Read device place name) dev reply e (rw (sym e) tt) formed (rw d c) (d, t)
 
 written_is : (front : Front) (m : Machine) (client : ClientRecord) (device : List ℕ) (place : Place) (name : Option (List ℕ)) (payload : List ℕ) (o : Option ℕ)
     → o ≡ find_device front device
@@ -185,33 +184,29 @@ written_formed front device target payload (Ok done) = refl
 written_formed front device target payload (Err (NoErrno e)) = tt
 written_formed front device target payload (Err NoMem) = tt
 
-pub serves_write_attribute : (front : Front) (told told' : Option Machine) (client : ClientRecord) (traces : List (Option Trace)) (device : List ℕ)
-    (place : Place)
-    (name : Option (List ℕ)) (payload : List ℕ) (dev : ℕ) (r : Result ⊤ No)
+pub serves_write_attribute : (front : Front) (a : State) (told' : Option Machine) (device : List ℕ) (place : Place) (name : Option (List ℕ)) (payload : List ℕ)
+    (dev : ℕ) (r : Result ⊤ No)
     → Some dev ≡ find_device front device
-    → IfSome told (λ m. Comes m client (write_attribute_at front m client place name payload dev) (written_by (length payload) r) told' client)
-    → Serves front told client traces (Written device (Some (place, name)) payload) (written_by (length payload) r) told' client traces
-serves_write_attribute front told told' client traces device place name payload dev r e c = record {
+    → IfSome a.told (λ m. Comes m a.client (write_attribute_at front m a.client place name payload dev) (written_by (length payload) r) told' a.client)
+    → Serves front a (Written device (Some (place, name)) payload) (written_by (length payload) r) (state told' a.client a.traces)
+serves_write_attribute front a told' device place name payload dev r e c = record {
   alone = rw (sym e) tt;
   formed = written_formed front device (place, name) payload r;
   exact =
-      all_comes front told told' client client _ (λ m. write_attribute_at front m client place name payload dev) (written_by (length payload) r)
-      (λ m. written_is front m client device place name payload (Some dev) e) c;
+      all_comes front a.told told' a.client a.client _ (λ m. write_attribute_at front m a.client place name payload dev) (written_by (length payload) r)
+      (λ m. written_is front m a.client device place name payload (Some dev) e) c;
   moves = (refl, refl);
 }
 
 -- at a device that isn't there
-pub serves_unwritten : (front : Front) (told : Option Machine) (client : ClientRecord) (traces : List (Option Trace)) (device : List ℕ) (place : Place)
-    (name : Option (List ℕ)) (payload : List ℕ) → None ≡ find_device front device
-    → Serves front told client traces (Written device (Some (place, name)) payload) (Refusal ENODEV) told client traces
-serves_unwritten front told client traces device place name payload e =
-    record {
-      alone = rw (sym e) (inl refl);
-      formed = tt;
-      exact =
-          all_refused front told client _ ENODEV (λ m. written_is front m client device place name payload None e);
-      moves = (refl, refl);
-    }
+pub serves_unwritten : (front : Front) (a : State) (device : List ℕ) (place : Place) (name : Option (List ℕ)) (payload : List ℕ)
+    → None ≡ find_device front device → Serves front a (Written device (Some (place, name)) payload) (Refusal ENODEV) a
+serves_unwritten front a device place name payload e = record {
+  alone = rw (sym e) (inl refl);
+  formed = tt;
+  exact = all_refused front a.told a.client _ ENODEV (λ m. written_is front m a.client device place name payload None e);
+  moves = (refl, refl);
+}
 
 -- a WRITE whose words name nothing
 nameless_is : (front : Front) (m : Machine) (client : ClientRecord) (device payload : List ℕ)
@@ -219,10 +214,9 @@ nameless_is : (front : Front) (m : Machine) (client : ClientRecord) (device payl
 unfolding act
 nameless_is front m client device payload = refl
 
-pub serves_nameless : (front : Front) (told : Option Machine) (client : ClientRecord) (traces : List (Option Trace)) (device payload : List ℕ)
-    → Serves front told client traces (Written device None payload) (Refusal EINVAL) told client traces
-serves_nameless front told client traces device payload =
-    serves_only front told client traces _ (Refusal EINVAL) tt (inl refl) tt (λ m. nameless_is front m client device payload) (refl, refl)
+pub serves_nameless : (front : Front) (a : State) (device payload : List ℕ) → Serves front a (Written device None payload) (Refusal EINVAL) a
+serves_nameless front a device payload =
+    serves_only front a _ (Refusal EINVAL) tt (inl refl) tt (λ m. nameless_is front m a.client device payload) (refl, refl)
 
 -- ---- refusals
 

@@ -14,39 +14,22 @@ use Rattle.iiod_commands.specs.declared.iio.No.TheVariants.{Errno as NoErrno, Me
 use Rattle.iiod_commands.specs.declared.iio.Took.{Took}
 use Rattle.iiod_commands.specs.declared.iio.Took.TheVariants.{Scan, Empty, Gone}
 use Rattle.iiod_commands.specs.declared.wanted.Wanted.{Wanted as CodeWanted}
-use Rattle.iio_mask.specs.declared.Mask.{Mask}
 use Rattle.iiod_commands.specs.Acts.{Acted, all_closed, all_released, zero_reply, open_at, open_wanted, joined_at, close_at, close_seat, read_at, read_seat, read_at_seat, refused, remask_at, remask_place, remask_seat, write_at_place, write_at_seat}
 use Rattle.iio_core.specs.Calls.{machine_after_close, ev_close_of}
-use Rattle.iiod_commands.specs.Client.{IsWanted, Wanted, SeatState, ClientRecord, are_apart, seat_state_of, trace_of, seats_of, traces_of, place_of, buffers_of, with_seats, wanted_of}
+use Rattle.iiod_commands.specs.Client.{IsWanted, Wanted, SeatState, ClientRecord, are_apart, seat_state_of, trace_of, seats_of, traces_of, place_of, buffers_of, with_seats, wanted_of, State, state, answering}
 use Rattle.iio_core.specs.Front.{Front, kind_at, shape_at}
 use Rattle.iio_core.specs.Machine.{Machine, is_plugged}
-use Rattle.iiod_commands.specs.Moves.{ReadsBy}
-use Rattle.iiod_commands.specs.Performs.{Comes, JoinsBy, LeavesBy, OpensBy, ReadAt, ReadHeld, ReadServed, ReadServedAt, RemaskMoves, RemaskTold, RemasksBy, WritesHeld, reply_by}
-use Rattle.iiod_commands.specs.Seat.{Answers, SeatRecord, Trace, IsNew, first_trace}
+use Rattle.iiod_commands.specs.Moves.{ReadsBy, JoinsAt, OpensAt, LeavesAt, RemasksAt}
+use Rattle.iiod_commands.specs.Performs.{Comes, ReadAt, ReadHeld, ReadServed, ReadServedAt, RemaskMoves, RemaskTold, WritesHeld, reply_by, MovesBy}
+use Rattle.iiod_commands.specs.Seat.{Answers, SeatRecord, Trace, first_trace}
 use Rattle.iiod_commands.proofs.ApartLaws.{apart_by, apart_kept, apart_last, apart_under, are_apart_by, none_has, placed_at}
 use Rattle.iiod_commands.specs.Wanted.{wanted_of_code}
+use Rattle.iiod_commands.specs.Reading.{reading}
 
 module _ {S : Type 0} (seen : S → SeatRecord) where
   one_more_held : {B : Type 0} (f : OpenSeat S → B) (held : List (OpenSeat S)) (h : OpenSeat S) → map f (held ++ h ∷ []) ≡ map f held ++ f h ∷ []
   one_more_held f [] h = refl
   one_more_held f (x ∷ xs) h = ap (λ ys. f x ∷ ys) (one_more_held f xs h)
-
-  pub joins : (front : Front) (dev capacity size : ℕ) (mask : Mask) (base : ClientRecord) (held mid held' : List (OpenSeat S)) (s : S)
-      → IsNew front dev mask.bits capacity (seen s)
-      → place_of dev (seats_of seen held) ≡ None
-      → mid ≡ held → held' ≡ mid ++ record { dev = dev; mask = mask; capacity = capacity; size = size; discarded = 0; seat = s } ∷ []
-      → JoinsBy dev (record { mask = mask.bits; capacity = capacity }) (with_seats (seats_of seen held) base) (traces_of seen held) (Ok tt)
-      (with_seats (seats_of seen held') base) (traces_of seen held')
-  joins front dev capacity size mask base held mid held' s is free z e' =
-      let e : held' ≡ held ++ record { dev = dev; mask = mask; capacity = capacity; size = size; discarded = 0; seat = s } ∷ [] = rw z at e' in
-      record {
-        number = (seen s).number;
-        t = (seen s).trace;
-        free = free;
-        added = ap (λ hs. with_seats (seats_of seen hs) base) e ∙ ap (λ (bs : List SeatState). with_seats bs base) (one_more_held (seat_state_of seen) held _);
-        told = ap (λ hs. traces_of seen hs) e ∙ one_more_held (trace_of seen) held _;
-        fresh = is.fresh;
-      }
 
   -- no two seats are at one device, after one is added at a device where there was none
   pub apart_joined : (held mid held' : List (OpenSeat S)) (h : OpenSeat S) → are_apart (seats_of seen held) ≡ true → place_of h.dev (seats_of seen held) ≡ None
@@ -103,14 +86,16 @@ module _ {S : Type 0} (seen : S → SeatRecord) where
   closes front (Some m) told' base dev i held held' h at l e gone t =
       (machine_after_close front m h.dev (seen h.seat).number, t, closed_at front m base i held held' h _ at l e gone)
 
-  pub leaves : (base : ClientRecord) (dev i : ℕ) (held held' : List (OpenSeat S)) → Some i ≡ place_of dev (seats_of seen held) → held' ≡ remove held i
-      → LeavesBy dev (with_seats (seats_of seen held) base) (traces_of seen held) (Ok tt) (with_seats (seats_of seen held') base) (traces_of seen held')
-  leaves base dev i held held' at gone = (
-    i,
-    sym at,
-    ap (λ hs. with_seats (seats_of seen hs) base) gone ∙ ap (λ (bs : List SeatState). with_seats bs base) (map_remove (seat_state_of seen) held i),
-    ap (λ hs. traces_of seen hs) gone ∙ map_remove (trace_of seen) held i,
-  )
+  pub leaves : (told told' : Option Machine) (base : ClientRecord) (dev i : ℕ) (held held' : List (OpenSeat S)) → Some i ≡ place_of dev (seats_of seen held)
+      → held' ≡ remove held i
+      → LeavesAt dev (state told (with_seats (seats_of seen held) base) (traces_of seen held))
+      (state told' (with_seats (seats_of seen held') base) (traces_of seen held'))
+  leaves told told' base dev i held held' at gone = record {
+    i = i;
+    at = sym at;
+    gone = ap (λ hs. with_seats (seats_of seen hs) base) gone ∙ ap (λ (bs : List SeatState). with_seats bs base) (map_remove (seat_state_of seen) held i);
+    told = ap (λ hs. traces_of seen hs) gone ∙ map_remove (trace_of seen) held i;
+  }
 
   map_set : {B : Type 0} (f : OpenSeat S → B) (held : List (OpenSeat S)) (i : ℕ) (y : OpenSeat S) → map f (slice_set held i y) ≡ slice_set (map f held) i (f y)
   map_set f [] zero y = refl
@@ -131,12 +116,13 @@ module _ {S : Type 0} (seen : S → SeatRecord) where
   map_set_same f (x ∷ xs) zero y h l e same = ap (λ z. z ∷ map f xs) (same ∙ ap f e)
   map_set_same f (x ∷ xs) (suc i) y h l e same = ap (λ ys. f x ∷ ys) (map_set_same f xs i y h (omega arith) e same)
 
-  served_at : (front : Front) (dev asked i : ℕ) (told told' : Option Machine) (base : ClientRecord) (held : List (OpenSeat S)) (h h' : OpenSeat S)
-      (reply : Reply)
+  served_at : (front : Front) (dev asked i : ℕ) (told told' : Option Machine) (base client' : ClientRecord) (held : List (OpenSeat S)) (h h' : OpenSeat S)
+      (before after : List ℕ) (reply : Reply)
       → place_of dev (seats_of seen held) ≡ Some i → i < length held → h ≡ slice_index_or held i h
-      → ReadServed front asked told told' (seat_state_of seen h) (trace_of seen h) (trace_of seen h') reply
-      → ReadServedAt front dev asked told told' (with_seats (seats_of seen held) base) (traces_of seen held) (traces_of seen (slice_set held i h')) reply
-  served_at front dev asked i told told' base held h h' reply at l e r =
+      → ReadServed front asked (seat_state_of seen h) (reading told (seen h.seat) before) (reading told' (seen h'.seat) after) reply
+      → ReadServedAt front dev asked (state told (with_seats (seats_of seen held) base) (traces_of seen held))
+      (state told' client' (traces_of seen (slice_set held i h'))) reply
+  served_at front dev asked i told told' base client' held h h' before after reply at l e r =
       record { exact = by told r.exact; moves = moved (place_of dev (seats_of seen held)) at; whole = r.whole }
     where
       by : (told : Option Machine)
@@ -166,18 +152,20 @@ module _ {S : Type 0} (seen : S → SeatRecord) where
         reads = r.moves;
       }
 
-  pub reads_at : (front : Front) (dev asked i : ℕ) (told told' : Option Machine) (base : ClientRecord) (held : List (OpenSeat S)) (h h' : OpenSeat S)
+  pub reads_at : (front : Front) (dev asked i : ℕ) (told told' : Option Machine) (base client' : ClientRecord) (held : List (OpenSeat S)) (h h' : OpenSeat S)
       (before after : List ℕ) (r : Result Took Mem)
       → Some i ≡ place_of dev (seats_of seen held) → i < length held → h ≡ slice_index_or held i h
-      → ReadHeld front asked told told' (seat_state_of seen h) (trace_of seen h) (trace_of seen h') before after r
-      → ReadAt front dev asked told told' (with_seats (seats_of seen held) base) (traces_of seen held) (traces_of seen (slice_set held i h')) before after r
-  reads_at front dev asked i told told' base held h h' before after (Ok Scan) at l e r =
-      (r.0, r.1, r.2, served_at front dev asked i told told' base held h h' r.0 (sym at) l e r.3)
-  reads_at front dev asked i told told' base held h h' before after (Ok Empty) at l e r =
-      (r.0, served_at front dev asked i told told' base held h h' _ (sym at) l e r.1)
-  reads_at front dev asked i told told' base held h h' before after (Ok Gone) at l e r =
-      (r.0, served_at front dev asked i told told' base held h h' _ (sym at) l e r.1)
-  reads_at front dev asked i told told' base held h h' before after (Err fault) at l e r = (r.0, r.1, map_set_same (trace_of seen) held i h' h l e r.2)
+      → ReadHeld front asked (seat_state_of seen h) (reading told (seen h.seat) before) (reading told' (seen h'.seat) after) r
+      → ReadAt front dev asked (answering (state told (with_seats (seats_of seen held) base) (traces_of seen held)) before)
+      (answering (state told' client' (traces_of seen (slice_set held i h'))) after) r
+  reads_at front dev asked i told told' base client' held h h' before after (Ok Scan) at l e r =
+      (r.0, r.1, r.2, served_at front dev asked i told told' base client' held h h' before after r.0 (sym at) l e r.3)
+  reads_at front dev asked i told told' base client' held h h' before after (Ok Empty) at l e r =
+      (r.0, served_at front dev asked i told told' base client' held h h' before after _ (sym at) l e r.1)
+  reads_at front dev asked i told told' base client' held h h' before after (Ok Gone) at l e r =
+      (r.0, served_at front dev asked i told told' base client' held h h' before after _ (sym at) l e r.1)
+  reads_at front dev asked i told told' base client' held h h' before after (Err fault) at l e r =
+      (r.0, r.1, map_set_same (trace_of seen) held i h' h l e r.2)
 
   pub writes_at : (front : Front) (told told' : Option Machine) (base : ClientRecord) (dev i : ℕ) (payload : List ℕ) (held : List (OpenSeat S)) (h : OpenSeat S)
       (reply : Reply)
@@ -246,12 +234,13 @@ module _ {S : Type 0} (seen : S → SeatRecord) where
   remask_comes front (Some m) told' base dev i text held h h' (Err NoMem) at l e plugged moves t =
       (t, ap (λ (bs : List SeatState). with_seats bs base) (map_set_same (seat_state_of seen) held i h' h l e moves.0))
 
-  pub remasks_by : (front : Front) (base : ClientRecord) (dev i : ℕ) (text : List ℕ) (held : List (OpenSeat S)) (h h' : OpenSeat S) (r : Result ⊤ No)
+  pub remasks_by : (front : Front) (told told' : Option Machine) (base : ClientRecord) (dev i : ℕ) (text : List ℕ) (held : List (OpenSeat S))
+      (h h' : OpenSeat S) (r : Result ⊤ No)
       → Some i ≡ place_of dev (seats_of seen held) → i < length held → h ≡ slice_index_or held i h
       → RemaskMoves front text (seat_state_of seen h) (trace_of seen h) r (seat_state_of seen h') (trace_of seen h')
-      → RemasksBy front dev text (with_seats (seats_of seen held) base) (traces_of seen held) r (with_seats (seats_of seen (slice_set held i h')) base)
-      (traces_of seen (slice_set held i h'))
-  remasks_by front base dev i text held h h' (Ok done) at l e j =
+      → MovesBy (RemasksAt front dev text) (state told (with_seats (seats_of seen held) base) (traces_of seen held)) r
+      (state told' (with_seats (seats_of seen (slice_set held i h')) base) (traces_of seen (slice_set held i h')))
+  remasks_by front told told' base dev i text held h h' (Ok done) at l e j =
       let here = get_is (seat_state_of seen) held i h l e in
       let its = placed_at dev (seats_of seen held) i (seat_state_of seen h) (sym at) here in
       record {
@@ -274,7 +263,7 @@ module _ {S : Type 0} (seen : S → SeatRecord) where
       begun : (a b : Option Trace) → b ≡ option_map (λ (x : Trace). first_trace) a → b ≡ option_map (λ (x : Trace). first_trace) b
       begun None b is = rw is refl
       begun (Some x) b is = rw is refl
-  remasks_by front base dev i text held h h' (Err why) at l e j = (
+  remasks_by front told told' base dev i text held h h' (Err why) at l e j = (
     ap (λ (bs : List SeatState). with_seats bs base) (map_set_same (seat_state_of seen) held i h' h l e j.0),
     map_set_same (trace_of seen) held i h' h l e
         j.1,
@@ -337,18 +326,16 @@ releasing_more None t t' who first before after dev r split inv some close = tt
 releasing_more (Some m) t t' who first before after dev r split inv some close =
     releasing_one m inv.0 t t' who first before after dev r split inv.1 inv.2 some close
 
-pub read_nowhere : (front : Front) (dev asked : ℕ) (told : Option Machine) (client : ClientRecord) (traces : List (Option Trace))
-    → place_of dev client.seats ≡ None
-    → ReadServedAt front dev asked told told client traces traces (Refusal EBADF)
-read_nowhere front dev asked told client traces at = record { exact = by told; moves = moved (place_of dev client.seats) at; whole = tt }
+pub read_nowhere : (front : Front) (dev asked : ℕ) (a : State) → place_of dev a.client.seats ≡ None → ReadServedAt front dev asked a a (Refusal EBADF)
+read_nowhere front dev asked a at = record { exact = by a.told; moves = moved (place_of dev a.client.seats) at; whole = tt }
   where
     by : (told : Option Machine)
         → IfSome told (λ m. (n : Machine) × (told ≡ Some n)
-        × (read_at front m client asked (place_of dev client.seats) ≡ record { reply = Refusal EBADF; machine = n; client = client }))
+        × (read_at front m a.client asked (place_of dev a.client.seats) ≡ record { reply = Refusal EBADF; machine = n; client = a.client }))
     by None = tt
-    by (Some m) = (m, refl, ap (λ p. read_at front m client asked p) at)
+    by (Some m) = (m, refl, ap (λ p. read_at front m a.client asked p) at)
 
-    moved : (p : Option ℕ) → p ≡ None → ReadsBy front asked client.seats traces p (Refusal EBADF) traces
+    moved : (p : Option ℕ) → p ≡ None → ReadsBy front asked a.client.seats a.traces p (Refusal EBADF) a.traces
     moved None e = (refl, refl)
     moved (Some i) e = absurd (cc)
 
@@ -383,9 +370,9 @@ refuses front (Some m) client dev samples text cyclic is_open plugged shape buff
     (m, refl, wanted_is front m client dev samples text cyclic is_open plugged shape buffers _ e0 e1 e2 e3 e)
 
 -- an OPEN by what it asks for, at the shape and the buffers count that the code found
-pub opens_by : (front : Front) (dev samples : ℕ) (text : List ℕ) (cyclic : Bool) (client client' : ClientRecord) (traces traces' : List (Option Trace))
-    (shape : ShapeRecord) (buffers : ℕ) (x : Wanted) (r : Result ⊤ No)
-    → shape ≡ shape_at front dev → buffers ≡ buffers_of dev client.buffers → IsWanted (kind_at front dev) shape buffers samples text cyclic x
-    → JoinsBy dev x client traces r client' traces' → OpensBy front dev samples text cyclic client traces r client' traces'
-opens_by front dev samples text cyclic client client' traces traces' shape buffers x (Ok done) e n w j = (x, rw (e, n) at w, j)
-opens_by front dev samples text cyclic client client' traces traces' shape buffers x (Err why) e n w j = j
+pub opens_by : (front : Front) (dev samples : ℕ) (text : List ℕ) (cyclic : Bool) (a b : State) (shape : ShapeRecord) (buffers : ℕ) (x : Wanted)
+    (r : Result ⊤ No)
+    → shape ≡ shape_at front dev → buffers ≡ buffers_of dev a.client.buffers → IsWanted (kind_at front dev) shape buffers samples text cyclic x
+    → MovesBy (JoinsAt dev x) a r b → MovesBy (OpensAt front dev samples text cyclic) a r b
+opens_by front dev samples text cyclic a b shape buffers x (Ok done) e n w j = (x, rw (e, n) at w, j)
+opens_by front dev samples text cyclic a b shape buffers x (Err why) e n w j = j

@@ -21,12 +21,12 @@ use Rattle.iiod_commands.specs.declared.manner.Progress.{Progress}
 use Rattle.iiod_commands.specs.declared.manner.Progress.TheVariants.{Done, Waits}
 use Rattle.iiod_commands.specs.Acts.{Acted, Acts, act, altered, at_device, refused, retriggered, settled, open_at, close_at, read_at, read_buffer_at, read_attribute_at, ev_close_known, ev_open_known, ev_read_known, get_trigger_at, remask_known, set_buffers_at, set_trigger_at, trigger_named, where_known, write_buffer_at, zero_reply}
 use Rattle.iiod_commands.specs.Answers.{IsAt}
-use Rattle.iiod_commands.specs.Client.{SeatState, ClientRecord, place_of, with_count, with_holding, without_holding}
+use Rattle.iiod_commands.specs.Client.{SeatState, ClientRecord, place_of, with_count, with_holding, without_holding, State, state, Answering, answering}
 use Rattle.iio_core.specs.Front.{Front, find_device, kind_at}
 use Rattle.iio_core.specs.Machine.{Machine, is_plugged, station_at, with_site}
 use Rattle.iio_core.specs.Calls.{CallResult, set_trigger_of, unless}
-use Rattle.iiod_commands.specs.Moves.{Accepts, AnswersAlone, AnswersAs, IsOrShort, Moves, ReadsBy, Serves, at_known, at_seat}
-use Rattle.iiod_commands.specs.Performs.{AnswersRead, Comes, HasRoomAfter, IsAllowed, IsAnswerOf, IsFound, IsWhole, LeavesBy, OpensBy, Performs, ReadAt, ReadServedAt, RemasksBy, client_by, reply_by, taken_by}
+use Rattle.iiod_commands.specs.Moves.{Accepts, AnswersAlone, AnswersAs, IsOrShort, Moves, ReadsBy, Serves, at_known, at_seat, OpensAt, LeavesAt, RemasksAt}
+use Rattle.iiod_commands.specs.Performs.{AnswersRead, Comes, HasRoomAfter, IsAllowed, IsAnswerOf, IsFound, IsWhole, Performs, ReadAt, ReadServedAt, client_by, reply_by, taken_by, MovesBy}
 use Rattle.iiod_commands.specs.Seat.{Answers, Trace}
 
 -- an outcome that is the item's
@@ -134,109 +134,80 @@ act_at front m client o (EvClose device) e = ap (λ x. at_device m client (λ de
 act_at front m client o command e = absurd e
 
 -- if there is no device of that name
-unknown : (front : Front) (told : Option Machine) (client : ClientRecord) (traces : List (Option Trace)) (command : Command) → IsAt front None command
-    → AnswersAlone front client (Said (Ok command)) (Refusal ENODEV) → Moves front client traces (Said (Ok command)) (Refusal ENODEV) client traces
-    → Serves front told client traces (Said (Ok command)) (Refusal ENODEV) told client traces
-unknown front told client traces command e alone moves =
-    record { alone = alone; formed = tt; exact = all_refused front told client _ ENODEV (λ m. act_at front m client None command e); moves = moves }
+unknown : (front : Front) (a : State) (command : Command) → IsAt front None command
+    → AnswersAlone front a.client (Said (Ok command)) (Refusal ENODEV) → Moves front a (Said (Ok command)) (Refusal ENODEV) a
+    → Serves front a (Said (Ok command)) (Refusal ENODEV) a
+unknown front a command e alone moves =
+    record { alone = alone; formed = tt; exact = all_refused front a.told a.client _ ENODEV (λ m. act_at front m a.client None command e); moves = moves }
 
-pub serves_unknown : (front : Front) (told : Option Machine) (client : ClientRecord) (traces : List (Option Trace)) (command : Command)
-    → IsAt front None command
-    → Serves front told client traces (Said (Ok command)) (Refusal ENODEV) told client traces
-serves_unknown front told client traces (Open device samples text cyclic) e =
-    unknown front told client traces (Open device samples text cyclic) e (rw (sym e) (inl refl)) (refl, refl)
-serves_unknown front told client traces (Close device) e = unknown front told client traces (Close device) e (rw (sym e) (inl refl)) (refl, refl)
-serves_unknown front told client traces (Read device place name) e =
-    unknown front told client traces (Read device place name) e (rw (sym e) (inl refl)) (refl, refl)
-serves_unknown front told client traces (GetTrig device) e = unknown front told client traces (GetTrig device) e (rw (sym e) (inl refl)) (refl, refl)
-serves_unknown front told client traces (SetTrig device name) e = unknown front told client traces (SetTrig device name) e (rw (sym e) (inl refl)) (refl, refl)
-serves_unknown front told client traces (SetBuffers device n) e = unknown front told client traces (SetBuffers device n) e (rw (sym e) (inl refl)) (refl, refl)
-serves_unknown front told client traces (Remask device text) e = unknown front told client traces (Remask device text) e (rw (sym e) (inl refl)) (refl, refl)
-serves_unknown front told client traces (EvOpen device) e = unknown front told client traces (EvOpen device) e (rw (sym e) (inl refl)) (refl, refl)
-serves_unknown front told client traces (EvRead device) e = unknown front told client traces (EvRead device) e (rw (sym e) (inl refl)) (refl, refl)
-serves_unknown front told client traces (EvClose device) e = unknown front told client traces (EvClose device) e (rw (sym e) (inl refl)) (refl, refl)
-serves_unknown front told client traces command e = absurd e
+pub serves_unknown : (front : Front) (a : State) (command : Command) → IsAt front None command → Serves front a (Said (Ok command)) (Refusal ENODEV) a
+serves_unknown front a (Open device samples text cyclic) e = unknown front a (Open device samples text cyclic) e (rw (sym e) (inl refl)) (refl, refl)
+serves_unknown front a (Close device) e = unknown front a (Close device) e (rw (sym e) (inl refl)) (refl, refl)
+serves_unknown front a (Read device place name) e = unknown front a (Read device place name) e (rw (sym e) (inl refl)) (refl, refl)
+serves_unknown front a (GetTrig device) e = unknown front a (GetTrig device) e (rw (sym e) (inl refl)) (refl, refl)
+serves_unknown front a (SetTrig device name) e = unknown front a (SetTrig device name) e (rw (sym e) (inl refl)) (refl, refl)
+serves_unknown front a (SetBuffers device n) e = unknown front a (SetBuffers device n) e (rw (sym e) (inl refl)) (refl, refl)
+serves_unknown front a (Remask device text) e = unknown front a (Remask device text) e (rw (sym e) (inl refl)) (refl, refl)
+serves_unknown front a (EvOpen device) e = unknown front a (EvOpen device) e (rw (sym e) (inl refl)) (refl, refl)
+serves_unknown front a (EvRead device) e = unknown front a (EvRead device) e (rw (sym e) (inl refl)) (refl, refl)
+serves_unknown front a (EvClose device) e = unknown front a (EvClose device) e (rw (sym e) (inl refl)) (refl, refl)
+serves_unknown front a command e = absurd e
 
 -- if the device is found
-pub serves_at : (front : Front) (told told' : Option Machine) (client client' : ClientRecord) (traces traces' : List (Option Trace)) (command : Command)
-    (dev : ℕ)
-    (reply : Reply) → IsAt front (Some dev) command
-    → AnswersAlone front client (Said (Ok command)) reply → AnswersAs front (Said (Ok command)) reply
-    → IfSome told (λ m. Comes m client (on_device front m client command dev) reply told' client')
-    → Moves front client traces (Said (Ok command)) reply client' traces'
-    → Serves front told client traces (Said (Ok command)) reply told' client' traces'
-serves_at front told told' client client' traces traces' command dev reply e alone formed c moves =
-    record {
-      alone = alone;
-      formed = formed;
-      exact =
-          all_comes front told told' client client' _ (λ m. on_device front m client command dev) reply (λ m. act_at front m client (Some dev) command e) c;
-      moves = moves;
-    }
+pub serves_at : (front : Front) (a b : State) (command : Command) (dev : ℕ) (reply : Reply) → IsAt front (Some dev) command
+    → AnswersAlone front a.client (Said (Ok command)) reply → AnswersAs front (Said (Ok command)) reply
+    → IfSome a.told (λ m. Comes m a.client (on_device front m a.client command dev) reply b.told b.client)
+    → Moves front a (Said (Ok command)) reply b → Serves front a (Said (Ok command)) reply b
+serves_at front a b command dev reply e alone formed c moves = record {
+  alone = alone;
+  formed = formed;
+  exact = all_comes front a.told b.told a.client b.client _ (λ m. on_device front m a.client command dev) reply
+      (λ m. act_at front m a.client (Some dev) command e) c;
+  moves = moves;
+}
 
 -- ---- OPEN
 
-pub serves_open : (front : Front) (told told' : Option Machine) (client client' : ClientRecord) (traces traces' : List (Option Trace)) (device : List ℕ)
-    (samples : ℕ)
-    (text : List ℕ) (cyclic : Bool) (dev : ℕ) (r : Result ⊤ No)
+pub serves_open : (front : Front) (a b : State) (device : List ℕ) (samples : ℕ) (text : List ℕ) (cyclic : Bool) (dev : ℕ) (r : Result ⊤ No)
     → Some dev ≡ find_device front device
-    → IfSome told (λ m. Comes m client (open_at front m client dev samples text cyclic) (reply_by r) told' client')
-    → OpensBy front dev samples text cyclic client traces r client' traces'
-    → Serves front told client traces (Said (Ok (Open device samples text cyclic))) (reply_by r) told' client' traces'
-serves_open front told told' client client' traces traces' device samples text cyclic dev r e t j =
-    serves_at front told told' client client' traces traces' (Open device samples text cyclic) dev (reply_by r) e (rw (sym e) tt)
+    → IfSome a.told (λ m. Comes m a.client (open_at front m a.client dev samples text cyclic) (reply_by r) b.told b.client)
+    → MovesBy (OpensAt front dev samples text cyclic) a r b → Serves front a (Said (Ok (Open device samples text cyclic))) (reply_by r) b
+serves_open front a b device samples text cyclic dev r e t j =
+    serves_at front a b (Open device samples text cyclic) dev (reply_by r) e (rw (sym e) tt)
     (settles front (Said (Ok (Open device samples text cyclic))) r refl) t (moved r j)
   where
-    moved : (r : Result ⊤ No) → OpensBy front dev samples text cyclic client traces r client' traces'
-        → Moves front client traces (Said (Ok (Open device samples text cyclic))) (reply_by r) client' traces'
-    moved (Ok n) j = record {
-      s = record { dev = dev; number = j.2.number; mask = j.0.mask; capacity = j.0.capacity; discarded = 0 };
-      t = j.2.t;
-      named = sym e;
-      free = j.2.free;
-      wanted = j.1;
-      added = j.2.added;
-      told = j.2.told;
-      fresh = j.2.fresh;
-    }
+    moved : (r : Result ⊤ No) → MovesBy (OpensAt front dev samples text cyclic) a r b
+        → Moves front a (Said (Ok (Open device samples text cyclic))) (reply_by r) b
+    moved (Ok n) j = record { dev = dev; named = sym e; moves = j }
     moved (Err (NoErrno x)) j = j
     moved (Err NoMem) j = j
 
 -- ---- CLOSE
 
-pub serves_close : (front : Front) (told told' : Option Machine) (client client' : ClientRecord) (traces traces' : List (Option Trace)) (device : List ℕ)
-    (dev : ℕ)
-    (r : Result ⊤ No)
-    → Some dev ≡ find_device front device
-    → IfSome told (λ m. Comes m client (close_at front m client (place_of dev client.seats)) (reply_by r) told' client')
-    → (place_of dev client.seats ≡ None → r ≡ Err (NoErrno EBADF))
-    → LeavesBy dev client traces r client' traces'
-    → Serves front told client traces (Said (Ok (Close device))) (reply_by r) told' client' traces'
-serves_close front told told' client client' traces traces' device dev r e t none j =
-    serves_at front told told' client client' traces traces' (Close device) dev (reply_by r) e
-    (rw (sym e) (seatless (place_of dev client.seats) (reply_by r) (λ n. ap reply_by (none n)))) (settles front (Said (Ok (Close device))) r refl) t (moved r j)
+pub serves_close : (front : Front) (a b : State) (device : List ℕ) (dev : ℕ) (r : Result ⊤ No) → Some dev ≡ find_device front device
+    → IfSome a.told (λ m. Comes m a.client (close_at front m a.client (place_of dev a.client.seats)) (reply_by r) b.told b.client)
+    → (place_of dev a.client.seats ≡ None → r ≡ Err (NoErrno EBADF))
+    → MovesBy (LeavesAt dev) a r b → Serves front a (Said (Ok (Close device))) (reply_by r) b
+serves_close front a b device dev r e t none j =
+    serves_at front a b (Close device) dev (reply_by r) e
+    (rw (sym e) (seatless (place_of dev a.client.seats) (reply_by r) (λ n. ap reply_by (none n)))) (settles front (Said (Ok (Close device))) r refl) t
+    (moved r j)
   where
-    moved : (r : Result ⊤ No) → LeavesBy dev client traces r client' traces' → Moves front client traces (Said (Ok (Close device))) (reply_by r) client' traces'
-    moved (Ok n) j = record { dev = dev; i = j.0; named = sym e; at = j.1; gone = j.2; told = j.3 }
+    moved : (r : Result ⊤ No) → MovesBy (LeavesAt dev) a r b → Moves front a (Said (Ok (Close device))) (reply_by r) b
+    moved (Ok n) j = record { dev = dev; named = sym e; moves = j }
     moved (Err (NoErrno x)) j = j
     moved (Err NoMem) j = j
 
 -- ---- REMASK
 
-pub serves_remask : (front : Front) (told told' : Option Machine) (client client' : ClientRecord) (traces traces' : List (Option Trace)) (device text : List ℕ)
-    (dev : ℕ)
-    (r : Result ⊤ No)
-    → Some dev ≡ find_device front device
-    → IfSome told (λ m. Comes m client (remask_known front m client text dev) (reply_by r) told' client')
-    → RemasksBy front dev text client traces r client' traces'
-    → Serves front told client traces (Said (Ok (Remask device text))) (reply_by r) told' client' traces'
-serves_remask front told told' client client' traces traces' device text dev r e t j =
-    serves_at front told told' client client' traces traces' (Remask device text) dev (reply_by r) e (rw (sym e) tt)
-    (settles front (Said (Ok (Remask device text))) r refl) t (moved r j)
+pub serves_remask : (front : Front) (a b : State) (device text : List ℕ) (dev : ℕ) (r : Result ⊤ No) → Some dev ≡ find_device front device
+    → IfSome a.told (λ m. Comes m a.client (remask_known front m a.client text dev) (reply_by r) b.told b.client)
+    → MovesBy (RemasksAt front dev text) a r b → Serves front a (Said (Ok (Remask device text))) (reply_by r) b
+serves_remask front a b device text dev r e t j =
+    serves_at front a b (Remask device text) dev (reply_by r) e (rw (sym e) tt) (settles front (Said (Ok (Remask device text))) r refl) t (moved r j)
   where
-    moved : (r : Result ⊤ No) → RemasksBy front dev text client traces r client' traces'
-        → Moves front client traces (Said (Ok (Remask device text))) (reply_by r) client' traces'
-    moved (Ok n) j = (dev, sym e, j)
+    moved : (r : Result ⊤ No) → MovesBy (RemasksAt front dev text) a r b → Moves front a (Said (Ok (Remask device text))) (reply_by r) b
+    moved (Ok n) j = record { dev = dev; named = sym e; moves = j }
     moved (Err (NoErrno x)) j = j
     moved (Err NoMem) j = j
 
@@ -251,22 +222,18 @@ read_is front client device asked dev e read m =
     ap (λ o. at_device m client (read_buffer_at front m client asked) o) e
     ∙ ap (λ (b : Bool). where_known (not b) m client dev (read_at front m client asked (place_of dev client.seats))) read
 
-pub serves_read : (front : Front) (told told' : Option Machine) (client client' : ClientRecord) (traces traces' : List (Option Trace)) (device : List ℕ)
-    (asked dev : ℕ)
-    (reply : Reply)
-    → find_device front device ≡ Some dev → is_output (kind_at front dev) ≡ false → client' ≡ client
-    → ReadServedAt front dev asked told told' client traces traces' reply
-    → Serves front told client traces (Said (Ok (ReadBuf device asked))) reply told' client' traces'
-serves_read front told told' client client' traces traces' device asked dev reply e read same r =
+pub serves_read : (front : Front) (a b : State) (device : List ℕ) (asked dev : ℕ) (reply : Reply)
+    → find_device front device ≡ Some dev → is_output (kind_at front dev) ≡ false → b.client ≡ a.client
+    → ReadServedAt front dev asked a b reply → Serves front a (Said (Ok (ReadBuf device asked))) reply b
+serves_read front a b device asked dev reply e read same r =
     record {
-      alone = rw (e, read) (unseated (place_of dev client.seats) r.moves);
+      alone = rw (e, read) (unseated (place_of dev a.client.seats) r.moves);
       formed = formed reply;
-      exact = by told r.exact;
-      moves =
-          moved reply r.whole r.moves;
+      exact = by a.told r.exact;
+      moves = moved reply r.whole r.moves;
     }
   where
-    unseated : (p : Option ℕ) → ReadsBy front asked client.seats traces p reply traces' → IfSome (at_seat p) (λ answer. IsOrShort answer reply)
+    unseated : (p : Option ℕ) → ReadsBy front asked a.client.seats a.traces p reply b.traces → IfSome (at_seat p) (λ answer. IsOrShort answer reply)
     unseated None x = inl x.0
     unseated (Some i) x = tt
 
@@ -275,8 +242,8 @@ serves_read front told told' client client' traces traces' device asked dev repl
     formed NoMemory = tt
     formed reply = tt
 
-    moved : (reply : Reply) → IsWhole reply → ReadsBy front asked client.seats traces (place_of dev client.seats) reply traces'
-        → Moves front client traces (Said (Ok (ReadBuf device asked))) reply client' traces'
+    moved : (reply : Reply) → IsWhole reply → ReadsBy front asked a.client.seats a.traces (place_of dev a.client.seats) reply b.traces
+        → Moves front a (Said (Ok (ReadBuf device asked))) reply b
     moved NoMemory w x = absurd w
     moved Nothing w x = (same, rw (e, read) x)
     moved (Number n) w x = (same, rw (e, read) x)
@@ -284,11 +251,11 @@ serves_read front told told' client client' traces traces' device asked dev repl
     moved (Line t) w x = (same, rw (e, read) x)
     moved (Value t) w x = (same, rw (e, read) x)
     moved (Raw t) w x = (same, rw (e, read) x)
-    moved (Block a b c d) w x = (same, rw (e, read) x)
+    moved (Block p q v w') w x = (same, rw (e, read) x)
 
-    acts : (m n : Machine) (reply : Reply) → IsWhole reply → told' ≡ Some n
-        → read_at front m client asked (place_of dev client.seats) ≡ record { reply = reply; machine = n; client = client }
-        → Comes m client (read_at front m client asked (place_of dev client.seats)) reply told' client'
+    acts : (m n : Machine) (reply : Reply) → IsWhole reply → b.told ≡ Some n
+        → read_at front m a.client asked (place_of dev a.client.seats) ≡ record { reply = reply; machine = n; client = a.client }
+        → Comes m a.client (read_at front m a.client asked (place_of dev a.client.seats)) reply b.told b.client
     acts m n NoMemory w t x = absurd w
     acts m n Nothing w t x = (n, t, rw same x)
     acts m n (Number k) w t x = (n, t, rw same x)
@@ -296,15 +263,15 @@ serves_read front told told' client client' traces traces' device asked dev repl
     acts m n (Line k) w t x = (n, t, rw same x)
     acts m n (Value k) w t x = (n, t, rw same x)
     acts m n (Raw k) w t x = (n, t, rw same x)
-    acts m n (Block a b c d) w t x = (n, t, rw same x)
+    acts m n (Block p q v w') w t x = (n, t, rw same x)
 
     by : (told : Option Machine)
-        → IfSome told (λ m. (n : Machine) × (told' ≡ Some n)
-        × (read_at front m client asked (place_of dev client.seats) ≡ record { reply = reply; machine = n; client = client }))
-        → IfSome told (λ m. Acts front m client (Said (Ok (ReadBuf device asked))) reply told' client')
+        → IfSome told (λ m. (n : Machine) × (b.told ≡ Some n)
+        × (read_at front m a.client asked (place_of dev a.client.seats) ≡ record { reply = reply; machine = n; client = a.client }))
+        → IfSome told (λ m. Acts front m a.client (Said (Ok (ReadBuf device asked))) reply b.told b.client)
     by None x = tt
     by (Some m) x =
-        comes_acts front m client client' (Said (Ok (ReadBuf device asked))) _ reply told' (read_is front client device asked dev e read m)
+        comes_acts front m a.client b.client (Said (Ok (ReadBuf device asked))) _ reply b.told (read_is front a.client device asked dev e read m)
         (acts m x.0 reply r.whole x.1 x.2)
 
 unknown_read : (front : Front) (client : ClientRecord) (device : List ℕ) (asked : ℕ) → find_device front device ≡ None → (m : Machine)
@@ -312,39 +279,34 @@ unknown_read : (front : Front) (client : ClientRecord) (device : List ℕ) (aske
 unfolding act
 unknown_read front client device asked e m = ap (λ o. at_device m client (read_buffer_at front m client asked) o) e
 
-pub no_read : (front : Front) (told : Option Machine) (client : ClientRecord) (traces : List (Option Trace)) (device : List ℕ) (asked : ℕ)
-    → find_device front device ≡ None
-    → Serves front told client traces (Said (Ok (ReadBuf device asked))) (Refusal ENODEV) told client traces
-no_read front told client traces device asked e =
-    record {
-      alone = rw e (inl refl);
-      formed = tt;
-      exact = all_refused front told client _ ENODEV (unknown_read front client device asked e);
-      moves =
-          (refl, rw e (refl, refl));
-    }
+pub no_read : (front : Front) (a : State) (device : List ℕ) (asked : ℕ) → find_device front device ≡ None
+    → Serves front a (Said (Ok (ReadBuf device asked))) (Refusal ENODEV) a
+no_read front a device asked e = record {
+  alone = rw e (inl refl);
+  formed = tt;
+  exact = all_refused front a.told a.client _ ENODEV (unknown_read front a.client device asked e);
+  moves = (refl, rw e (refl, refl));
+}
 
 -- memory ran out before anything had changed
-short_read : (front : Front) (told told' : Option Machine) (client client' : ClientRecord) (traces traces' : List (Option Trace)) (device : List ℕ) (asked : ℕ)
-    → told' ≡ told → client' ≡ client → traces' ≡ traces → Serves front told client traces (Said (Ok (ReadBuf device asked))) NoMemory told' client' traces'
-short_read front told told' client client' traces traces' device asked t d s =
-    record { alone = short_reader front client.seats (find_device front device); formed = tt; exact = by told t; moves = (d, s) }
+short_read : (front : Front) (a b : State) (device : List ℕ) (asked : ℕ) → b.told ≡ a.told → b.client ≡ a.client → b.traces ≡ a.traces
+    → Serves front a (Said (Ok (ReadBuf device asked))) NoMemory b
+short_read front a b device asked t d s =
+    record { alone = short_reader front a.client.seats (find_device front device); formed = tt; exact = by a.told t; moves = (d, s) }
   where
-    by : (told : Option Machine) → told' ≡ told → IfSome told (λ m. (told' ≡ Some m) × (client' ≡ client))
+    by : (told : Option Machine) → b.told ≡ told → IfSome told (λ m. (b.told ≡ Some m) × (b.client ≡ a.client))
     by None t = tt
     by (Some m) t = (t, d)
 
 -- ---- the end of an item
 
-pub finished : (manner : Manner) (front : Front) (told told' : Option Machine) (client : ClientRecord) (traces : List (Option Trace)) (item : Item)
-    (client' : ClientRecord) (traces' : List (Option Trace))
-    (before after : List ℕ) (reply : Reply) (r : Result Progress Mem)
-    → Serves front told client traces item reply told' client' traces'
-    → IfOk r (λ p. p ≡ Done) → OnOk r (after ≡ before ++ text_of reply) → OnOk r (IsAllowed manner reply) → IsAnswerOf item manner reply
-    → IfOk r (Performs manner front told told' client traces item client' traces' before after)
-finished manner front told told' client traces item client' traces' before after reply (Ok Done) s d t a x = (reply, t, a, x, s)
-finished manner front told told' client traces item client' traces' before after reply (Ok (Waits dev)) s d t a x = absurd (cc)
-finished manner front told told' client traces item client' traces' before after reply (Err fault) s d t a x = tt
+pub finished : (manner : Manner) (front : Front) (x : Answering) (item : Item) (y : Answering) (reply : Reply) (r : Result Progress Mem)
+    → Serves front x.state item reply y.state
+    → IfOk r (λ p. p ≡ Done) → OnOk r (y.out ≡ x.out ++ text_of reply) → OnOk r (IsAllowed manner reply) → IsAnswerOf item manner reply
+    → IfOk r (Performs manner front x item y)
+finished manner front x item y reply (Ok Done) s d t a i = (reply, t, a, i, s)
+finished manner front x item y reply (Ok (Waits dev)) s d t a i = absurd (cc)
+finished manner front x item y reply (Err fault) s d t a i = tt
 
 pub allowed : (manner : Manner) (reply : Reply) → IsWhole reply → IsAllowed manner reply
 allowed manner NoMemory w = absurd w
@@ -380,64 +342,52 @@ pub unread_answer : (device : List ℕ) (asked : ℕ) (manner : Manner) (e : Err
 unread_answer device asked manner e (inl is) = rw is (found_answer device asked manner (Refusal ENODEV) tt)
 unread_answer device asked manner e (inr is) = rw is (found_answer device asked manner (Refusal ENOSYS) tt)
 
-answered : (manner : Manner) (front : Front) (told told' : Option Machine) (client client' : ClientRecord) (traces traces' : List (Option Trace))
-    (device : List ℕ)
-    (asked dev : ℕ)
-    (before mid after : List ℕ) (took : Result Took Mem) (p : Progress)
-    → find_device front device ≡ Some dev → is_output (kind_at front dev) ≡ false → client' ≡ client
-    → ReadAt front dev asked told told' client traces traces' before mid took
-    → AnswersRead manner dev took mid after p
-    → Performs manner front told told' client traces (Said (Ok (ReadBuf device asked))) client' traces' before after p
-answered manner front told told' client client' traces traces' device asked dev before mid after (Ok Scan) p e read same r a =
+answered : (manner : Manner) (front : Front) (x y : Answering) (after device : List ℕ) (asked dev : ℕ) (took : Result Took Mem) (p : Progress)
+    → find_device front device ≡ Some dev → is_output (kind_at front dev) ≡ false → y.state.client ≡ x.state.client
+    → ReadAt front dev asked x y took → AnswersRead manner dev took y.out after p
+    → Performs manner front x (Said (Ok (ReadBuf device asked))) (answering y.state after) p
+answered manner front x y after device asked dev (Ok Scan) p e read same r a =
     rw a.1 (
       r.0,
       a.0 ∙ r.1,
       allowed manner r.0 r.3.whole,
       found_answer device asked manner r.0 r.2,
-      serves_read front told told' client client' traces traces' device
-          asked dev r.0 e read same r.3,
+      serves_read front x.state y.state device asked dev r.0 e read same
+          r.3,
     )
-answered manner front told told' client client' traces traces' device asked dev before mid after (Ok Gone) p e read same r a =
+answered manner front x y after device asked dev (Ok Gone) p e read same r a =
     rw a.1 (
       Refusal ENODEV,
-      a.0
-          ∙ ap (λ (xs : List ℕ). xs ++ text_of (Refusal ENODEV)) r.0,
+      a.0 ∙ ap (λ (xs : List ℕ). xs ++ text_of (Refusal ENODEV)) r.0,
       allowed manner (Refusal ENODEV) tt,
       found_answer device asked manner (Refusal ENODEV) tt,
-      serves_read front told told' client client' traces traces' device asked dev _ e read same r.1,
+      serves_read front x.state y.state device asked dev _ e read same r.1,
     )
-answered Server front told told' client client' traces traces' device asked dev before mid after (Ok Empty) p e read same r a =
-    rw a.1 (a.0 ∙ r.0, refl, e, serves_read front told told' client client' traces traces' device asked dev _ e read same r.1)
-answered Script front told told' client client' traces traces' device asked dev before mid after (Ok Empty) p e read same r a =
+answered Server front x y after device asked dev (Ok Empty) p e read same r a =
+    rw a.1 (a.0 ∙ r.0, refl, e, serves_read front x.state y.state device asked dev _ e read same r.1)
+answered Script front x y after device asked dev (Ok Empty) p e read same r a =
     rw a.1 (
       Refusal EAGAIN,
-      a.0
-          ∙ ap (λ (xs : List ℕ). xs ++ text_of (Refusal EAGAIN)) r.0,
+      a.0 ∙ ap (λ (xs : List ℕ). xs ++ text_of (Refusal EAGAIN)) r.0,
       tt,
       tt,
-      serves_read front told told' client client' traces traces' device asked dev _ e read same r.1,
+      serves_read front x.state y.state device asked dev _ e read same r.1,
     )
-answered manner front told told' client client' traces traces' device asked dev before mid after (Err fault) p e read same r a =
+answered manner front x y after device asked dev (Err fault) p e read same r a =
     rw a.1 (
       NoMemory,
       a.0 ∙ ap (λ (xs : List ℕ). xs ++ text_of NoMemory) r.0,
       a.2,
       found_answer device asked manner NoMemory tt,
-      short_read front told told'
-          client client' traces traces' device asked r.1 same r.2,
+      short_read front x.state y.state device asked r.1 same r.2,
     )
 
-pub answers : (manner : Manner) (front : Front) (told told' : Option Machine) (client client' : ClientRecord) (traces traces' : List (Option Trace))
-    (device : List ℕ)
-    (asked dev : ℕ)
-    (before mid after : List ℕ) (took : Result Took Mem) (r : Result Progress Mem)
-    → find_device front device ≡ Some dev → is_output (kind_at front dev) ≡ false → client' ≡ client
-    → ReadAt front dev asked told told' client traces traces' before mid took
-    → IfOk r (AnswersRead manner dev took mid after)
-    → IfOk r (Performs manner front told told' client traces (Said (Ok (ReadBuf device asked))) client' traces' before after)
-answers manner front told told' client client' traces traces' device asked dev before mid after took (Ok p) e read same r a =
-    answered manner front told told' client client' traces traces' device asked dev before mid after took p e read same r a
-answers manner front told told' client client' traces traces' device asked dev before mid after took (Err fault) e read same r a = tt
+pub answers : (manner : Manner) (front : Front) (x y : Answering) (after device : List ℕ) (asked dev : ℕ) (took : Result Took Mem) (r : Result Progress Mem)
+    → find_device front device ≡ Some dev → is_output (kind_at front dev) ≡ false → y.state.client ≡ x.state.client
+    → ReadAt front dev asked x y took → IfOk r (AnswersRead manner dev took y.out after)
+    → IfOk r (Performs manner front x (Said (Ok (ReadBuf device asked))) (answering y.state after))
+answers manner front x y after device asked dev took (Ok p) e read same r a = answered manner front x y after device asked dev took p e read same r a
+answers manner front x y after device asked dev took (Err fault) e read same r a = tt
 
 -- ---- SETTRIG
 
@@ -475,98 +425,75 @@ set_found front (Some m) told' client name dev to p r plugged here own named ans
     comes_by m client (set_trigger_at front m client name dev) (set_trigger_of m dev to) r told'
     (rw (own, named, at) (retriggers m client dev to (is_empty (station_at m dev).members) at refl)) answers
 
-pub serves_set_trigger : (front : Front) (told told' : Option Machine) (client : ClientRecord) (traces : List (Option Trace)) (device : List ℕ)
-    (name : Option (List ℕ)) (dev : ℕ) (r : Result ⊤ No)
+pub serves_set_trigger : (front : Front) (a : State) (told' : Option Machine) (device : List ℕ) (name : Option (List ℕ)) (dev : ℕ) (r : Result ⊤ No)
     → Some dev ≡ find_device front device
-    → IfSome told (λ m. Comes m client (set_trigger_at front m client name dev) (reply_by r) told' client)
-    → Serves front told client traces (Said (Ok (SetTrig device name))) (reply_by r) told' client traces
-serves_set_trigger front told told' client traces device name dev r e c =
-    serves_at front told told' client client traces traces (SetTrig device name) dev (reply_by r) e (rw (sym e) tt)
+    → IfSome a.told (λ m. Comes m a.client (set_trigger_at front m a.client name dev) (reply_by r) told' a.client)
+    → Serves front a (Said (Ok (SetTrig device name))) (reply_by r) (state told' a.client a.traces)
+serves_set_trigger front a told' device name dev r e c =
+    serves_at front a (state told' a.client a.traces) (SetTrig device name) dev (reply_by r) e (rw (sym e) tt)
     (settles front (Said (Ok (SetTrig device name))) r refl) c (moved r)
   where
-    moved : (r : Result ⊤ No) → Moves front client traces (Said (Ok (SetTrig device name))) (reply_by r) client traces
+    moved : (r : Result ⊤ No) → Moves front a (Said (Ok (SetTrig device name))) (reply_by r) (state told' a.client a.traces)
     moved (Ok done) = (refl, refl)
     moved (Err (NoErrno e)) = (refl, refl)
     moved (Err NoMem) = (refl, refl)
 
 -- ---- SET
 
-pub serves_set_buffers : (front : Front) (told : Option Machine) (client client' : ClientRecord) (traces traces' : List (Option Trace)) (device : List ℕ)
-    (n dev : ℕ)
-    (r : Result ⊤ No)
-    → Some dev ≡ find_device front device
-    → IfSome told (λ m. Comes m client (set_buffers_at m client n dev) (reply_by r) told client')
-    → client' ≡ client_by (with_count dev n) client r → traces' ≡ traces
-    → Serves front told client traces (Said (Ok (SetBuffers device n))) (reply_by r) told client' traces'
-serves_set_buffers front told client client' traces traces' device n dev r e c a t =
-    serves_at front told told client client' traces traces' (SetBuffers device n) dev (reply_by r) e (rw (sym e) tt)
-    (settles front (Said (Ok (SetBuffers device n))) r refl) c (moved r a)
+pub serves_set_buffers : (front : Front) (a : State) (client' : ClientRecord) (traces' : List (Option Trace)) (device : List ℕ) (n dev : ℕ) (r : Result ⊤ No)
+    → Some dev ≡ find_device front device → IfSome a.told (λ m. Comes m a.client (set_buffers_at m a.client n dev) (reply_by r) a.told client')
+    → client' ≡ client_by (with_count dev n) a.client r → traces' ≡ a.traces
+    → Serves front a (Said (Ok (SetBuffers device n))) (reply_by r) (state a.told client' traces')
+serves_set_buffers front a client' traces' device n dev r e c changed t =
+    serves_at front a (state a.told client' traces') (SetBuffers device n) dev (reply_by r) e (rw (sym e) tt)
+    (settles front (Said (Ok (SetBuffers device n))) r refl) c (moved r changed)
   where
-    moved : (r : Result ⊤ No) → client' ≡ client_by (with_count dev n) client r
-        → Moves front client traces (Said (Ok (SetBuffers device n))) (reply_by r) client' traces'
-    moved (Ok done) a = record { dev = dev; named = sym e; made = a; told = t }
-    moved (Err (NoErrno x)) a = (a, t)
-    moved (Err NoMem) a = (a, t)
+    moved : (r : Result ⊤ No) → client' ≡ client_by (with_count dev n) a.client r
+        → Moves front a (Said (Ok (SetBuffers device n))) (reply_by r) (state a.told client' traces')
+    moved (Ok done) changed = record { dev = dev; named = sym e; moves = (changed, t) }
+    moved (Err (NoErrno x)) changed = (changed, t)
+    moved (Err NoMem) changed = (changed, t)
 
 -- ---- GETTRIG
 
-pub serves_get_trigger : (front : Front) (told : Option Machine) (client : ClientRecord) (traces : List (Option Trace)) (device : List ℕ) (dev : ℕ)
-    (reply : Reply)
-    → Some dev ≡ find_device front device
-    → IfSome told (λ m. Comes m client (get_trigger_at front m client dev) reply told client) → AnswersAs front (Said (Ok (GetTrig device))) reply
-    → Serves front told client traces (Said (Ok (GetTrig device))) reply told client traces
-serves_get_trigger front told client traces device dev reply e c formed =
-    serves_at front told told client client traces traces (GetTrig device) dev reply e (rw (sym e) tt) formed c (refl, refl)
+pub serves_get_trigger : (front : Front) (a : State) (device : List ℕ) (dev : ℕ) (reply : Reply) → Some dev ≡ find_device front device
+    → IfSome a.told (λ m. Comes m a.client (get_trigger_at front m a.client dev) reply a.told a.client) → AnswersAs front (Said (Ok (GetTrig device))) reply
+    → Serves front a (Said (Ok (GetTrig device))) reply a
+serves_get_trigger front a device dev reply e c formed = serves_at front a a (GetTrig device) dev reply e (rw (sym e) tt) formed c (refl, refl)
 
 -- ---- EVOPEN
 
-pub serves_ev_open : (front : Front) (told told' : Option Machine) (client client' : ClientRecord) (traces traces' : List (Option Trace)) (device : List ℕ)
-    (dev : ℕ)
-    (r : Result ⊤ No)
-    → Some dev ≡ find_device front device
-    → IfSome told (λ m. Comes m client (ev_open_known front m client dev) (reply_by r) told' client')
-    → client' ≡ client_by (with_holding dev) client r → traces' ≡ traces
-    → Serves front told client traces (Said (Ok (EvOpen device))) (reply_by r) told' client' traces'
-serves_ev_open front told told' client client' traces traces' device dev r e c a t =
-    serves_at front told told' client client' traces traces' (EvOpen device) dev (reply_by r) e (rw (sym e) tt)
-    (settles front (Said (Ok (EvOpen device))) r refl) c
-    (moved r a)
+pub serves_ev_open : (front : Front) (a b : State) (device : List ℕ) (dev : ℕ) (r : Result ⊤ No) → Some dev ≡ find_device front device
+    → IfSome a.told (λ m. Comes m a.client (ev_open_known front m a.client dev) (reply_by r) b.told b.client)
+    → b.client ≡ client_by (with_holding dev) a.client r → b.traces ≡ a.traces → Serves front a (Said (Ok (EvOpen device))) (reply_by r) b
+serves_ev_open front a b device dev r e c changed t =
+    serves_at front a b (EvOpen device) dev (reply_by r) e (rw (sym e) tt) (settles front (Said (Ok (EvOpen device))) r refl) c (moved r changed)
   where
-    moved : (r : Result ⊤ No) → client' ≡ client_by (with_holding dev) client r
-        → Moves front client traces (Said (Ok (EvOpen device))) (reply_by r) client' traces'
-    moved (Ok done) a = record { dev = dev; named = sym e; made = a; told = t }
-    moved (Err (NoErrno x)) a = (a, t)
-    moved (Err NoMem) a = (a, t)
+    moved : (r : Result ⊤ No) → b.client ≡ client_by (with_holding dev) a.client r → Moves front a (Said (Ok (EvOpen device))) (reply_by r) b
+    moved (Ok done) changed = record { dev = dev; named = sym e; moves = (changed, t) }
+    moved (Err (NoErrno x)) changed = (changed, t)
+    moved (Err NoMem) changed = (changed, t)
 
 -- ---- EVCLOSE
 
-pub serves_ev_close : (front : Front) (told told' : Option Machine) (client client' : ClientRecord) (traces traces' : List (Option Trace)) (device : List ℕ)
-    (dev : ℕ)
-    (r : Result ⊤ No)
-    → Some dev ≡ find_device front device
-    → IfSome told (λ m. Comes m client (ev_close_known front m client dev) (reply_by r) told' client')
-    → client' ≡ client_by (without_holding dev) client r → traces' ≡ traces
-    → Serves front told client traces (Said (Ok (EvClose device))) (reply_by r) told' client' traces'
-serves_ev_close front told told' client client' traces traces' device dev r e c a t =
-    serves_at front told told' client client' traces traces' (EvClose device) dev (reply_by r) e (rw (sym e) tt)
-    (settles front (Said (Ok (EvClose device))) r refl) c
-    (moved r a)
+pub serves_ev_close : (front : Front) (a b : State) (device : List ℕ) (dev : ℕ) (r : Result ⊤ No) → Some dev ≡ find_device front device
+    → IfSome a.told (λ m. Comes m a.client (ev_close_known front m a.client dev) (reply_by r) b.told b.client)
+    → b.client ≡ client_by (without_holding dev) a.client r → b.traces ≡ a.traces → Serves front a (Said (Ok (EvClose device))) (reply_by r) b
+serves_ev_close front a b device dev r e c changed t =
+    serves_at front a b (EvClose device) dev (reply_by r) e (rw (sym e) tt) (settles front (Said (Ok (EvClose device))) r refl) c (moved r changed)
   where
-    moved : (r : Result ⊤ No) → client' ≡ client_by (without_holding dev) client r
-        → Moves front client traces (Said (Ok (EvClose device))) (reply_by r) client' traces'
-    moved (Ok done) a = record { dev = dev; named = sym e; made = a; told = t }
-    moved (Err (NoErrno x)) a = (a, t)
-    moved (Err NoMem) a = (a, t)
+    moved : (r : Result ⊤ No) → b.client ≡ client_by (without_holding dev) a.client r → Moves front a (Said (Ok (EvClose device))) (reply_by r) b
+    moved (Ok done) changed = record { dev = dev; named = sym e; moves = (changed, t) }
+    moved (Err (NoErrno x)) changed = (changed, t)
+    moved (Err NoMem) changed = (changed, t)
 
 -- ---- EVREAD
 
-pub serves_ev_read : (front : Front) (told told' : Option Machine) (client : ClientRecord) (traces : List (Option Trace)) (device : List ℕ) (dev : ℕ)
-    (reply : Reply)
-    → Some dev ≡ find_device front device
-    → IfSome told (λ m. Comes m client (ev_read_known front m client dev) reply told' client) → AnswersAs front (Said (Ok (EvRead device))) reply
-    → Serves front told client traces (Said (Ok (EvRead device))) reply told' client traces
-serves_ev_read front told told' client traces device dev reply e c formed =
-    serves_at front told told' client client traces traces (EvRead device) dev reply e (rw (sym e) tt) formed c (refl, refl)
+pub serves_ev_read : (front : Front) (a : State) (told' : Option Machine) (device : List ℕ) (dev : ℕ) (reply : Reply) → Some dev ≡ find_device front device
+    → IfSome a.told (λ m. Comes m a.client (ev_read_known front m a.client dev) reply told' a.client) → AnswersAs front (Said (Ok (EvRead device))) reply
+    → Serves front a (Said (Ok (EvRead device))) reply (state told' a.client a.traces)
+serves_ev_read front a told' device dev reply e c formed =
+    serves_at front a (state told' a.client a.traces) (EvRead device) dev reply e (rw (sym e) tt) formed c (refl, refl)
 
 -- ---- READBUF of an output device, which is refused
 
@@ -579,14 +506,14 @@ output_is front client device asked dev e output m =
     ap (λ o. at_device m client (read_buffer_at front m client asked) o) e
     ∙ ap (λ (b : Bool). where_known (not b) m client dev (read_at front m client asked (place_of dev client.seats))) output
 
-pub serves_unread : (front : Front) (told : Option Machine) (client : ClientRecord) (traces : List (Option Trace)) (device : List ℕ) (asked dev : ℕ) (e : Errno)
+pub serves_unread : (front : Front) (a : State) (device : List ℕ) (asked dev : ℕ) (e : Errno)
     → find_device front device ≡ Some dev → is_output (kind_at front dev) ≡ true → (e ≡ ENODEV) ⊎ (e ≡ ENOSYS)
-    → ((d : ClientRecord) (a : Acted) → IfSome told (λ m. Comes m d (where_known false m d dev a) (Refusal e) told d))
-    → Serves front told client traces (Said (Ok (ReadBuf device asked))) (Refusal e) told client traces
-serves_unread front told client traces device asked dev e named output one u = record {
+    → ((d : ClientRecord) (o : Acted) → IfSome a.told (λ m. Comes m d (where_known false m d dev o) (Refusal e) a.told d))
+    → Serves front a (Said (Ok (ReadBuf device asked))) (Refusal e) a
+serves_unread front a device asked dev e named output one u = record {
   alone = rw (named, output) tt;
   formed = tt;
-  exact = by told u;
+  exact = by a.told u;
   moves = (refl, rw (named, output) (either one, refl));
 }
   where
@@ -594,12 +521,13 @@ serves_unread front told client traces device asked dev e named output one u = r
     either (inl x) = inl (ap Refusal x)
     either (inr x) = inr (ap Refusal x)
 
-    by : (told : Option Machine) → ((d : ClientRecord) (a : Acted) → IfSome told (λ m. Comes m d (where_known false m d dev a) (Refusal e) told d))
-        → IfSome told (λ m. Acts front m client (Said (Ok (ReadBuf device asked))) (Refusal e) told client)
+    by : (told : Option Machine) → ((d : ClientRecord) (o : Acted) → IfSome told (λ m. Comes m d (where_known false m d dev o) (Refusal e) told d))
+        → IfSome told (λ m. Acts front m a.client (Said (Ok (ReadBuf device asked))) (Refusal e) told a.client)
     by None u = tt
     by (Some m) u =
-        comes_acts front m client client (Said (Ok (ReadBuf device asked))) _ (Refusal e) (Some m) (output_is front client device asked dev named output m)
-        (u client (read_at front m client asked (place_of dev client.seats)))
+        comes_acts front m a.client a.client (Said (Ok (ReadBuf device asked))) _ (Refusal e) (Some m)
+        (output_is front a.client device asked dev named output m)
+        (u a.client (read_at front m a.client asked (place_of dev a.client.seats)))
 
 -- ---- WRITEBUF
 
@@ -608,19 +536,15 @@ streamed_at : (front : Front) (m : Machine) (client : ClientRecord) (o : Option 
 unfolding act
 streamed_at front m client o device payload e = ap (λ x. at_device m client (write_buffer_at front m client payload) x) (sym e)
 
-pub serves_streamed : (front : Front) (told told' : Option Machine) (client client' : ClientRecord) (traces traces' : List (Option Trace))
-    (device payload : List ℕ)
-    (dev : ℕ) (r : Result ℕ No)
-    → Some dev ≡ find_device front device
-    → IfSome told (λ m. Comes m client (write_buffer_at front m client payload dev) (taken_by r) told' client)
-    → client' ≡ client → traces' ≡ traces → IfOk r (λ taken. taken ≤ length payload)
-    → Serves front told client traces (Streamed device payload) (taken_by r) told' client' traces'
-serves_streamed front told told' client client' traces traces' device payload dev r e c d t within = record {
+pub serves_streamed : (front : Front) (a b : State) (device payload : List ℕ) (dev : ℕ) (r : Result ℕ No) → Some dev ≡ find_device front device
+    → IfSome a.told (λ m. Comes m a.client (write_buffer_at front m a.client payload dev) (taken_by r) b.told a.client)
+    → b.client ≡ a.client → b.traces ≡ a.traces → IfOk r (λ taken. taken ≤ length payload) → Serves front a (Streamed device payload) (taken_by r) b
+serves_streamed front a b device payload dev r e c d t within = record {
   alone = rw (sym e) tt;
   formed = formed r within;
   exact =
-      rw d (all_comes front told told' client client _ (λ m. write_buffer_at front m client payload dev) (taken_by r)
-      (λ m. streamed_at front m client (Some dev) device payload e) c);
+      rw d (all_comes front a.told b.told a.client a.client _ (λ m. write_buffer_at front m a.client payload dev) (taken_by r)
+      (λ m. streamed_at front m a.client (Some dev) device payload e) c);
   moves = moved r;
 }
   where
@@ -629,18 +553,17 @@ serves_streamed front told told' client client' traces traces' device payload de
     formed (Err (NoErrno e)) within = tt
     formed (Err NoMem) within = tt
 
-    moved : (r : Result ℕ No) → Moves front client traces (Streamed device payload) (taken_by r) client' traces'
+    moved : (r : Result ℕ No) → Moves front a (Streamed device payload) (taken_by r) b
     moved (Ok taken) = (d, t)
     moved (Err (NoErrno e)) = (d, t)
     moved (Err NoMem) = (d, t)
 
-pub serves_unstreamed : (front : Front) (told : Option Machine) (client : ClientRecord) (traces : List (Option Trace)) (device payload : List ℕ)
-    → None ≡ find_device front device
-    → Serves front told client traces (Streamed device payload) (Refusal ENODEV) told client traces
-serves_unstreamed front told client traces device payload e = record {
+pub serves_unstreamed : (front : Front) (a : State) (device payload : List ℕ) → None ≡ find_device front device
+    → Serves front a (Streamed device payload) (Refusal ENODEV) a
+serves_unstreamed front a device payload e = record {
   alone = rw (sym e) (inl refl);
   formed = tt;
-  exact = all_refused front told client _ ENODEV (λ m. streamed_at front m client None device payload e);
+  exact = all_refused front a.told a.client _ ENODEV (λ m. streamed_at front m a.client None device payload e);
   moves = (refl, refl);
 }
 
@@ -653,15 +576,9 @@ unchanged before after capacity capacity' same grows room =
     omega (arith, long, grows, room)
 
 -- after a take there is room for the rest of READBUF's answer, if there was before
-pub room_after : (front : Front) (dev asked : ℕ) (told told' : Option Machine) (client : ClientRecord) (traces traces' : List (Option Trace))
-    (before after : List ℕ)
-    (capacity capacity' : ℕ) (took : Result Took Mem)
-    → ReadAt front dev asked told told' client traces traces' before after took → capacity ≤ capacity' → length before + SHORT_ANSWER ≤ capacity
-    → HasRoomAfter took after capacity'
-room_after front dev asked told told' client traces traces' before after capacity capacity' (Ok Scan) read grows room = tt
-room_after front dev asked told told' client traces traces' before after capacity capacity' (Ok Empty) read grows room =
-    unchanged before after capacity capacity' read.0 grows room
-room_after front dev asked told told' client traces traces' before after capacity capacity' (Ok Gone) read grows room =
-    unchanged before after capacity capacity' read.0 grows room
-room_after front dev asked told told' client traces traces' before after capacity capacity' (Err mem) read grows room =
-    unchanged before after capacity capacity' read.0 grows room
+pub room_after : (front : Front) (dev asked : ℕ) (x y : Answering) (capacity capacity' : ℕ) (took : Result Took Mem) → ReadAt front dev asked x y took
+    → capacity ≤ capacity' → length x.out + SHORT_ANSWER ≤ capacity → HasRoomAfter took y.out capacity'
+room_after front dev asked x y capacity capacity' (Ok Scan) read grows room = tt
+room_after front dev asked x y capacity capacity' (Ok Empty) read grows room = unchanged x.out y.out capacity capacity' read.0 grows room
+room_after front dev asked x y capacity capacity' (Ok Gone) read grows room = unchanged x.out y.out capacity capacity' read.0 grows room
+room_after front dev asked x y capacity capacity' (Err mem) read grows room = unchanged x.out y.out capacity capacity' read.0 grows room

@@ -10,12 +10,10 @@ use Rattle.iiod_commands.specs.declared.answers.Answer.TheVariants as answer
 use Rattle.iiod_commands.specs.declared.iio.No.{No}
 use Rattle.iiod_commands.specs.declared.manner.Manner.{Manner}
 use Rattle.iiod_commands.specs.Acts.{help_reply, version_reply}
-use Rattle.iiod_commands.specs.Client.{ClientRecord}
+use Rattle.iiod_commands.specs.Client.{State}
 use Rattle.iio_core.specs.Front.{Front, find_device, trigger_name}
-use Rattle.iio_core.specs.Machine.{Machine}
 use Rattle.iiod_commands.specs.Moves.{Serves}
 use Rattle.iiod_commands.specs.Performs.{IsAllowed, reply_by}
-use Rattle.iiod_commands.specs.Seat.{Trace}
 
 -- ---- answers
 
@@ -90,10 +88,9 @@ IsAt front dev command = ⊥
 -- ---- items
 
 -- an item and its answer
-pub record ServesBy (front : Front) (told : Option Machine) (client : ClientRecord) (traces : List (Option Trace)) (item : Item) (r : Result Answer No)
-    (told' : Option Machine) (client' : ClientRecord) (traces' : List (Option Trace)) : Type 0 where
-  pub served : Serves front told client traces item (reply_of front r) told' client' traces'
-  pub short : IsLong r → Serves front told client traces item NoMemory told' client' traces'
+pub record ServesBy (front : Front) (a : State) (item : Item) (r : Result Answer No) (b : State) : Type 0 where
+  pub served : Serves front a item (reply_of front r) b
+  pub short : IsLong r → Serves front a item NoMemory b
 
 -- the answer was printed, or, instead of a long one, lack of memory
 pub record Prints (manner : Manner) (front : Front) (r : Result Answer No) (before after : List ℕ) : Type 0 where

@@ -14,7 +14,7 @@ use Rattle.iiod_commands.specs.declared.client.Client.{Client}
 use Rattle.iiod_commands.specs.declared.client.OpenSeat.{OpenSeat}
 use Rattle.iiod_commands.specs.declared.client.TheConstants.{FIRST_BUFFERS}
 use Rattle.iio_core.specs.Front.{Front, kind_at, size_at}
-use Rattle.iio_core.specs.Machine.{MemberId}
+use Rattle.iio_core.specs.Machine.{Machine, MemberId}
 use Rattle.iio_core.specs.Opening.{asked_refusals, is_excess, mask_refusals}
 use Rattle.iiod_commands.specs.Seat.{SeatRecord, Trace, MayOpen, IsOwned}
 
@@ -113,6 +113,24 @@ pub record IsHolding (front : Front) (dev : ℕ) : Type 0 where
   pub there : dev < length front.devices
   pub input : is_input (kind_at front dev) ≡ true
 
+-- what the calls of a connection change: the devices, if they tell their state, and what the connection has there, with the traces
+-- of its seats
+pub record State : Type 0 where
+  pub told : Option Machine
+  pub client : ClientRecord
+  pub traces : List (Option Trace)
+
+abbrev pub state : Option Machine → ClientRecord → List (Option Trace) → State
+state told client traces = record { told = told; client = client; traces = traces }
+
+-- ... and the answers so far
+pub record Answering : Type 0 where
+  pub state : State
+  pub out : List ℕ
+
+abbrev pub answering : State → List ℕ → Answering
+answering s out = record { state = s; out = out }
+
 -- ---- a connection's seats as these lists
 
 module _ {S : Type 0} (seen : S → SeatRecord) where
@@ -130,6 +148,9 @@ module _ {S : Type 0} (seen : S → SeatRecord) where
 
   abbrev pub client_of : Client S → ClientRecord
   client_of d = record { who = d.who; seats = seats_of d.held.items; buffers = d.buffers.items; holdings = d.holdings.items }
+
+  abbrev pub state_of : Option Machine → Client S → State
+  state_of told d = state told (client_of d) (traces_of d.held.items)
 
   -- a seat is owned at its device, with its mask and the capacity of its OPEN, and its size is that of the mask's scans
   pub record IsHeld (front : Front) (h : OpenSeat S) : Type 0 where

@@ -12,9 +12,8 @@ use Rattle.iiod_grammar.specs.Stream.{Item, Said, Written, Streamed, End}
 use Rattle.iiod_reply.specs.Reply.{Reply, Nothing, Number, Refusal, Value, Raw, Block, NoMemory}
 use Rattle.iiod_commands.specs.Acts.{Acts, end_reply, help_reply, left_client, trigger_reply, version_reply, zero_reply}
 use Rattle.iio_core.specs.Front.{Front, channel_count, find_device, kind_at, shape_at, size_at}
-use Rattle.iio_core.specs.Machine.{Machine}
 use Rattle.iiod_commands.specs.Seat.{Trace, after_nothing, first_trace}
-use Rattle.iiod_commands.specs.Client.{SeatState, ClientRecord, IsWanted, seat_state_remasked, buffers_of, place_of, with_count, with_holding, with_seats, without_holding}
+use Rattle.iiod_commands.specs.Client.{SeatState, ClientRecord, IsWanted, State, Wanted, seat_state_remasked, buffers_of, place_of, with_count, with_holding, with_seats, without_holding}
 use Rattle.iiod_commands.specs.Reading.{Reads, most_scans}
 
 -- what a READBUF's answer says of the trace of its seat: its scans are those by which the trace grew
@@ -53,75 +52,65 @@ ReadsFrom front asked seats traces (Some dev) reply traces' = MatchBool (is_outp
     (((reply ≡ Refusal ENODEV) ⊎ (reply ≡ Refusal ENOSYS)) × (traces' ≡ traces))
     (ReadsBy front asked seats traces (place_of dev seats) reply traces')
 
--- one more seat at a device where there was none, under the mask of the OPEN's text, with the OPEN's samples times the buffers
--- count of the device as capacity. Nothing has been taken from it yet
-pub record Joins (front : Front) (device : List ℕ) (samples : ℕ) (text : List ℕ) (cyclic : Bool) (client : ClientRecord) (traces : List (Option Trace))
-    (client' : ClientRecord) (traces' : List (Option Trace)) : Type 0 where
-  pub s : SeatState
+-- one more seat at a device where there was none, under this mask and with this capacity. Nothing has been taken from it yet
+pub record JoinsAt (dev : ℕ) (x : Wanted) (a b : State) : Type 0 where
+  pub number : ℕ
   pub t : Option Trace
-  pub named : find_device front device ≡ Some s.dev
-  pub free : place_of s.dev client.seats ≡ None
-  pub wanted : IsWanted (kind_at front s.dev) (shape_at front s.dev) (buffers_of s.dev client.buffers) samples text cyclic
-      (record { mask = s.mask; capacity = s.capacity })
-  pub added : client' ≡ with_seats (client.seats ++ s ∷ []) client
-  pub told : traces' ≡ traces ++ t ∷ []
+  pub free : place_of dev a.client.seats ≡ None
+  pub added : b.client ≡ with_seats (a.client.seats ++ record { dev = dev; number = number; mask = x.mask; capacity = x.capacity; discarded = 0 } ∷ []) a.client
+  pub told : b.traces ≡ a.traces ++ t ∷ []
   pub fresh : t ≡ option_map (λ (x : Trace). first_trace) t
 
+-- ... by an OPEN's words: under the mask of its text, with its samples times the buffers count of the device as capacity
+abbrev pub OpensAt : Front → (dev samples : ℕ) → (text : List ℕ) → (cyclic : Bool) → State → State → Type 0
+OpensAt front dev samples text cyclic a b =
+    (x : Wanted) × IsWanted (kind_at front dev) (shape_at front dev) (buffers_of dev a.client.buffers) samples text cyclic x × JoinsAt dev x a b
+
 -- one seat fewer
-pub record Leaves (front : Front) (device : List ℕ) (client : ClientRecord) (traces : List (Option Trace)) (client' : ClientRecord)
-    (traces' : List (Option Trace)) : Type
-    0 where
-  pub dev : ℕ
+pub record LeavesAt (dev : ℕ) (a b : State) : Type 0 where
   pub i : ℕ
-  pub named : find_device front device ≡ Some dev
-  pub at : place_of dev client.seats ≡ Some i
-  pub gone : client' ≡ with_seats (remove client.seats i) client
-  pub told : traces' ≡ remove traces i
+  pub at : place_of dev a.client.seats ≡ Some i
+  pub gone : b.client ≡ with_seats (remove a.client.seats i) a.client
+  pub told : b.traces ≡ remove a.traces i
 
 -- a seat of the device under another mask, that of the REMASK's text, with its capacity as it was; its trace begins anew
-pub record RemasksAt (front : Front) (dev : ℕ) (text : List ℕ) (client : ClientRecord) (traces : List (Option Trace)) (client' : ClientRecord)
-    (traces' : List (Option Trace)) : Type 0 where
+pub record RemasksAt (front : Front) (dev : ℕ) (text : List ℕ) (a b : State) : Type 0 where
   pub s : SeatState
   pub i : ℕ
   pub mask : ℕ
   pub waiting : ℕ
   pub t : Option Trace
   pub its : s.dev ≡ dev
-  pub at : place_of dev client.seats ≡ Some i
-  pub here : slice_get client.seats i ≡ Some s
+  pub at : place_of dev a.client.seats ≡ Some i
+  pub here : slice_get a.client.seats i ≡ Some s
   pub wanted : mask_of text (count_of (shape_at front dev)) ≡ Some mask
-  pub under : client' ≡ with_seats (slice_set client.seats i (seat_state_remasked mask waiting s)) client
-  pub told : traces' ≡ slice_set traces i t
+  pub under : b.client ≡ with_seats (slice_set a.client.seats i (seat_state_remasked mask waiting s)) a.client
+  pub told : b.traces ≡ slice_set a.traces i t
   pub fresh : t ≡ option_map (λ (x : Trace). first_trace) t
 
--- ... at the device of that name
-abbrev pub Remasks : Front → (device text : List ℕ) → ClientRecord → List (Option Trace) → ClientRecord → List (Option Trace) → Type 0
-Remasks front device text client traces client' traces' =
-    (dev : ℕ) × (find_device front device ≡ Some dev) × RemasksAt front dev text client traces client' traces'
-
 -- what the connection has besides its seats is altered
-pub record Alters (front : Front) (device : List ℕ) (change : ℕ → ClientRecord → ClientRecord) (client : ClientRecord) (traces : List (Option Trace))
-    (client' : ClientRecord) (traces' : List (Option Trace)) : Type 0 where
+abbrev pub Alters : (ClientRecord → ClientRecord) → State → State → Type 0
+Alters change a b = (b.client ≡ change a.client) × (b.traces ≡ a.traces)
+
+-- what happens at the device of that name
+pub record AtNamed (front : Front) (device : List ℕ) (Moved : ℕ → Type 0) : Type 0 where
   pub dev : ℕ
   pub named : find_device front device ≡ Some dev
-  pub made : client' ≡ change dev client
-  pub told : traces' ≡ traces
+  pub moves : Moved dev
 
 -- what an item and its answer make of what the connection has: a refusal, or lack of memory, changes at most a seat's trace
-abbrev pub Moves : Front → ClientRecord → List (Option Trace) → Item → Reply → ClientRecord → List (Option Trace) → Type 0
-Moves front client traces (Said (Ok (Open device samples text cyclic))) (Number n) client' traces' =
-    Joins front device samples text cyclic client traces client' traces'
-Moves front client traces (Said (Ok (Close device))) (Number n) client' traces' = Leaves front device client traces client' traces'
-Moves front client traces (Said (Ok (Remask device text))) (Number n) client' traces' = Remasks front device text client traces client' traces'
-Moves front client traces (Said (Ok (ReadBuf device asked))) NoMemory client' traces' = (client' ≡ client) × (traces' ≡ traces)
-Moves front client traces (Said (Ok (ReadBuf device asked))) reply client' traces' =
-    (client' ≡ client) × ReadsFrom front asked client.seats traces (find_device front device) reply traces'
-Moves front client traces (Said (Ok (SetBuffers device n))) (Number z) client' traces' =
-    Alters front device (λ dev. with_count dev n) client traces client' traces'
-Moves front client traces (Said (Ok (EvOpen device))) (Number z) client' traces' = Alters front device with_holding client traces client' traces'
-Moves front client traces (Said (Ok (EvClose device))) (Number z) client' traces' = Alters front device without_holding client traces client' traces'
-Moves front client traces (End error) reply client' traces' = (reply ≡ end_reply error) × (client' ≡ left_client client) × (traces' ≡ [])
-Moves front client traces item reply client' traces' = (client' ≡ client) × (traces' ≡ traces)
+abbrev pub Moves : Front → State → Item → Reply → State → Type 0
+Moves front a (Said (Ok (Open device samples text cyclic))) (Number n) b = AtNamed front device (λ dev. OpensAt front dev samples text cyclic a b)
+Moves front a (Said (Ok (Close device))) (Number n) b = AtNamed front device (λ dev. LeavesAt dev a b)
+Moves front a (Said (Ok (Remask device text))) (Number n) b = AtNamed front device (λ dev. RemasksAt front dev text a b)
+Moves front a (Said (Ok (ReadBuf device asked))) NoMemory b = (b.client ≡ a.client) × (b.traces ≡ a.traces)
+Moves front a (Said (Ok (ReadBuf device asked))) reply b =
+    (b.client ≡ a.client) × ReadsFrom front asked a.client.seats a.traces (find_device front device) reply b.traces
+Moves front a (Said (Ok (SetBuffers device n))) (Number z) b = AtNamed front device (λ dev. Alters (with_count dev n) a b)
+Moves front a (Said (Ok (EvOpen device))) (Number z) b = AtNamed front device (λ dev. Alters (with_holding dev) a b)
+Moves front a (Said (Ok (EvClose device))) (Number z) b = AtNamed front device (λ dev. Alters (without_holding dev) a b)
+Moves front a (End error) reply b = (reply ≡ end_reply error) × (b.client ≡ left_client a.client) × (b.traces ≡ [])
+Moves front a item reply b = (b.client ≡ a.client) × (b.traces ≡ a.traces)
 
 -- ---- answers
 
@@ -204,9 +193,8 @@ AnswersAs front item NoMemory = Unit {0}
 AnswersAs front item reply = Accepts front item reply
 
 -- one item and its answer: over any `Iio`, and over one that tells its state
-pub record Serves (front : Front) (told : Option Machine) (client : ClientRecord) (traces : List (Option Trace)) (item : Item) (reply : Reply)
-    (told' : Option Machine) (client' : ClientRecord) (traces' : List (Option Trace)) : Type 0 where
-  pub alone : AnswersAlone front client item reply
+pub record Serves (front : Front) (a : State) (item : Item) (reply : Reply) (b : State) : Type 0 where
+  pub alone : AnswersAlone front a.client item reply
   pub formed : AnswersAs front item reply
-  pub exact : IfSome told (λ m. Acts front m client item reply told' client')
-  pub moves : Moves front client traces item reply client' traces'
+  pub exact : IfSome a.told (λ m. Acts front m a.client item reply b.told b.client)
+  pub moves : Moves front a item reply b

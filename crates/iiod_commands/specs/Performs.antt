@@ -1,5 +1,5 @@
 -- What the functions that carry out a command promise.
-use Rattle.std.specs.Prelude.{◌≡◌, ℕ, pos, ◌+◌, ◌≤◌, Bool, List, [], ◌∷◌, ◌++◌, length, remove, slice_set, Option, Some, None, option_map, IfSome, IsOk, Result, Ok, Err, ⊤}
+use Rattle.std.specs.Prelude.{◌≡◌, ℕ, pos, ◌+◌, ◌≤◌, List, ◌++◌, length, slice_set, Option, Some, option_map, IfSome, IsOk, Result, Ok, Err, ⊤}
 use Rattle.iio_base.specs.declared.Mem.{Mem}
 use Rattle.iio_text.specs.declared.errors.Errno.TheVariants.{EAGAIN, ENODEV}
 use Rattle.iio_layout.specs.Shape.{count_of}
@@ -17,12 +17,13 @@ use Rattle.iiod_commands.specs.declared.manner.Manner.{Manner}
 use Rattle.iiod_commands.specs.declared.manner.Manner.TheVariants.{Script, Server}
 use Rattle.iiod_commands.specs.declared.manner.Progress.{Progress}
 use Rattle.iiod_commands.specs.declared.manner.Progress.TheVariants.{Done, Waits}
-use Rattle.iio_core.specs.Front.{Front, find_device, kind_at, shape_at}
+use Rattle.iio_core.specs.Front.{Front, find_device, shape_at}
 use Rattle.iio_core.specs.Machine.{Machine}
 use Rattle.iiod_commands.specs.Seat.{Trace, first_trace}
-use Rattle.iiod_commands.specs.Client.{SeatState, ClientRecord, IsWanted, Wanted, seat_state_remasked, buffers_of, place_of, with_seats}
+use Rattle.iiod_commands.specs.Client.{SeatState, ClientRecord, seat_state_remasked, place_of, with_seats, State, Answering}
 use Rattle.iiod_commands.specs.Acts.{Acted, read_at, read_at_seat, remask_seat, write_at_seat, zero_reply}
-use Rattle.iiod_commands.specs.Moves.{ReadMoves, ReadsBy, RemasksAt, Serves}
+use Rattle.iiod_commands.specs.Moves.{ReadMoves, ReadsBy, Serves}
+use Rattle.iiod_commands.specs.Reading.{Reading}
 
 -- the reply to an answer by 0 or a refusal
 abbrev pub reply_by : Result ⊤ No → Reply
@@ -56,39 +57,10 @@ IsFound reply = Unit {0}
 
 -- ---- seats
 
--- one more seat at a device where there was none, by what its OPEN asks for
-pub record JoinsAt (dev : ℕ) (x : Wanted) (client : ClientRecord) (traces : List (Option Trace)) (client' : ClientRecord) (traces' : List (Option Trace)) : Type
-    0 where
-  pub number : ℕ
-  pub t : Option Trace
-  pub free : place_of dev client.seats ≡ None
-  pub added : client' ≡ with_seats (client.seats ++ record { dev = dev; number = number; mask = x.mask; capacity = x.capacity; discarded = 0 } ∷ []) client
-  pub told : traces' ≡ traces ++ t ∷ []
-  pub fresh : t ≡ option_map (λ (x : Trace). first_trace) t
-
--- ... or no change
-abbrev pub JoinsBy : ℕ → Wanted → ClientRecord → List (Option Trace) → Result ⊤ No → ClientRecord → List (Option Trace) → Type 0
-JoinsBy dev x client traces (Ok done) client' traces' = JoinsAt dev x client traces client' traces'
-JoinsBy dev x client traces (Err e) client' traces' = (client' ≡ client) × (traces' ≡ traces)
-
--- one more seat by an OPEN's words, or no change
-abbrev pub OpensBy : Front → (dev samples : ℕ) → (text : List ℕ) → (cyclic : Bool) → ClientRecord → List (Option Trace) → Result ⊤ No → ClientRecord
-    → List (Option Trace) → Type 0
-OpensBy front dev samples text cyclic client traces (Ok done) client' traces' =
-    (x : Wanted) × IsWanted (kind_at front dev) (shape_at front dev) (buffers_of dev client.buffers) samples text cyclic x
-    × JoinsAt dev x client traces client' traces'
-OpensBy front dev samples text cyclic client traces (Err e) client' traces' = (client' ≡ client) × (traces' ≡ traces)
-
--- one seat fewer, or no change
-abbrev pub LeavesBy : ℕ → ClientRecord → List (Option Trace) → Result ⊤ No → ClientRecord → List (Option Trace) → Type 0
-LeavesBy dev client traces (Ok done) client' traces' =
-    (i : ℕ) × (place_of dev client.seats ≡ Some i) × (client' ≡ with_seats (remove client.seats i) client) × (traces' ≡ remove traces i)
-LeavesBy dev client traces (Err e) client' traces' = (client' ≡ client) × (traces' ≡ traces)
-
--- a seat under another mask, or every seat as it was
-abbrev pub RemasksBy : Front → (dev : ℕ) → (text : List ℕ) → ClientRecord → List (Option Trace) → Result ⊤ No → ClientRecord → List (Option Trace) → Type 0
-RemasksBy front dev text client traces (Ok done) client' traces' = RemasksAt front dev text client traces client' traces'
-RemasksBy front dev text client traces (Err e) client' traces' = (client' ≡ client) × (traces' ≡ traces)
+-- a change of what the connection has, if the call isn't refused
+abbrev pub MovesBy : (State → State → Type 0) → State → Result ⊤ No → State → Type 0
+MovesBy Moved a (Ok done) b = Moved a b
+MovesBy Moved a (Err e) b = (b.client ≡ a.client) × (b.traces ≡ a.traces)
 
 -- what a REMASK makes of the seat itself over a told state, whatever its index
 abbrev pub RemaskTold : Front → List ℕ → Machine → SeatState → Result ⊤ No → Option Machine → SeatState → Type 0
@@ -121,43 +93,32 @@ WritesHeld front payload told s reply told' =
 -- ---- READBUF
 
 -- at a seat: over a told state, and over any Iio
-pub record ReadServed (front : Front) (asked : ℕ) (told told' : Option Machine) (s : SeatState) (trace trace' : Option Trace) (reply : Reply) : Type 0 where
-  pub exact : IfSome told (λ m. (n : Machine) × (told' ≡ Some n)
+pub record ReadServed (front : Front) (asked : ℕ) (s : SeatState) (x y : Reading) (reply : Reply) : Type 0 where
+  pub exact : IfSome x.told (λ m. (n : Machine) × (y.told ≡ Some n)
       × ((client : ClientRecord) → read_at_seat front m client s asked ≡ record { reply = reply; machine = n; client = client }))
-  pub moves : ReadMoves front s asked reply trace trace'
+  pub moves : ReadMoves front s asked reply x.seat.trace y.seat.trace
   pub whole : IsWhole reply
 
 -- ... by the answer of the first take. If memory ran out, nothing changed
-abbrev pub ReadHeld : Front → ℕ → Option Machine → Option Machine → SeatState → Option Trace → Option Trace → List ℕ → List ℕ → Result Took Mem → Type 0
-ReadHeld front asked told told' s trace trace' before after (Ok Scan) =
-    (reply : Reply) × (after ≡ before ++ text_of reply) × IsFound reply × ReadServed front asked told told' s trace trace' reply
-ReadHeld front asked told told' s trace trace' before after (Ok Empty) =
-    (after ≡ before) × ReadServed front asked told told' s trace trace' (Refusal EAGAIN)
-ReadHeld front asked told told' s trace trace' before after (Ok Gone) =
-    (after ≡ before) × ReadServed front asked told told' s trace trace' (Refusal ENODEV)
-ReadHeld front asked told told' s trace trace' before after (Err mem) =
-    (after ≡ before) × (told' ≡ told) × (trace' ≡ trace)
+abbrev pub ReadHeld : Front → (asked : ℕ) → SeatState → Reading → Reading → Result Took Mem → Type 0
+ReadHeld front asked s x y (Ok Scan) = (reply : Reply) × (y.out ≡ x.out ++ text_of reply) × IsFound reply × ReadServed front asked s x y reply
+ReadHeld front asked s x y (Ok Empty) = (y.out ≡ x.out) × ReadServed front asked s x y (Refusal EAGAIN)
+ReadHeld front asked s x y (Ok Gone) = (y.out ≡ x.out) × ReadServed front asked s x y (Refusal ENODEV)
+ReadHeld front asked s x y (Err mem) = (y.out ≡ x.out) × (y.told ≡ x.told) × (y.seat.trace ≡ x.seat.trace)
 
 -- at a device
-pub record ReadServedAt (front : Front) (dev asked : ℕ) (told told' : Option Machine) (client : ClientRecord) (traces traces' : List (Option Trace))
-    (reply : Reply) :
-    Type 0 where
-  pub exact : IfSome told (λ m. (n : Machine) × (told' ≡ Some n)
-      × (read_at front m client asked (place_of dev client.seats) ≡ record { reply = reply; machine = n; client = client }))
-  pub moves : ReadsBy front asked client.seats traces (place_of dev client.seats) reply traces'
+pub record ReadServedAt (front : Front) (dev asked : ℕ) (a b : State) (reply : Reply) : Type 0 where
+  pub exact : IfSome a.told (λ m. (n : Machine) × (b.told ≡ Some n)
+      × (read_at front m a.client asked (place_of dev a.client.seats) ≡ record { reply = reply; machine = n; client = a.client }))
+  pub moves : ReadsBy front asked a.client.seats a.traces (place_of dev a.client.seats) reply b.traces
   pub whole : IsWhole reply
 
-abbrev pub ReadAt : Front → ℕ → ℕ → Option Machine → Option Machine → ClientRecord → List (Option Trace) → List (Option Trace) → List ℕ → List ℕ
-    → Result Took Mem
-    → Type 0
-ReadAt front dev asked told told' client traces traces' before after (Ok Scan) =
-    (reply : Reply) × (after ≡ before ++ text_of reply) × IsFound reply × ReadServedAt front dev asked told told' client traces traces' reply
-ReadAt front dev asked told told' client traces traces' before after (Ok Empty) =
-    (after ≡ before) × ReadServedAt front dev asked told told' client traces traces' (Refusal EAGAIN)
-ReadAt front dev asked told told' client traces traces' before after (Ok Gone) =
-    (after ≡ before) × ReadServedAt front dev asked told told' client traces traces' (Refusal ENODEV)
-ReadAt front dev asked told told' client traces traces' before after (Err mem) =
-    (after ≡ before) × (told' ≡ told) × (traces' ≡ traces)
+abbrev pub ReadAt : Front → (dev asked : ℕ) → Answering → Answering → Result Took Mem → Type 0
+ReadAt front dev asked x y (Ok Scan) =
+    (reply : Reply) × (y.out ≡ x.out ++ text_of reply) × IsFound reply × ReadServedAt front dev asked x.state y.state reply
+ReadAt front dev asked x y (Ok Empty) = (y.out ≡ x.out) × ReadServedAt front dev asked x.state y.state (Refusal EAGAIN)
+ReadAt front dev asked x y (Ok Gone) = (y.out ≡ x.out) × ReadServedAt front dev asked x.state y.state (Refusal ENODEV)
+ReadAt front dev asked x y (Err mem) = (y.out ≡ x.out) × (y.state.told ≡ x.state.told) × (y.state.traces ≡ x.state.traces)
 
 -- ---- one item
 
@@ -185,13 +146,11 @@ IsReadOf front dev (Said (Ok (ReadBuf device asked))) = find_device front device
 IsReadOf front dev item = ⊥
 
 -- the item was answered, or it is a READBUF for which nothing waits, and is tried again
-abbrev pub Performs : Manner → Front → Option Machine → Option Machine → ClientRecord → List (Option Trace) → Item → ClientRecord → List (Option Trace) → List ℕ
-    → List ℕ → Progress → Type 0
-Performs manner front told told' client traces item client' traces' before after Done =
-    (reply : Reply) × (after ≡ before ++ text_of reply) × IsAllowed manner reply × IsAnswerOf item manner reply
-    × Serves front told client traces item reply told' client' traces'
-Performs manner front told told' client traces item client' traces' before after (Waits dev) =
-    (after ≡ before) × (manner ≡ Server) × IsReadOf front dev item × Serves front told client traces item (Refusal EAGAIN) told' client' traces'
+abbrev pub Performs : Manner → Front → Answering → Item → Answering → Progress → Type 0
+Performs manner front x item y Done =
+    (reply : Reply) × (y.out ≡ x.out ++ text_of reply) × IsAllowed manner reply × IsAnswerOf item manner reply × Serves front x.state item reply y.state
+Performs manner front x item y (Waits dev) =
+    (y.out ≡ x.out) × (manner ≡ Server) × IsReadOf front dev item × Serves front x.state item (Refusal EAGAIN) y.state
 
 -- the rest of READBUF's answer
 abbrev pub AnswersRead : Manner → ℕ → Result Took Mem → List ℕ → List ℕ → Progress → Type 0

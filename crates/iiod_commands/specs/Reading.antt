@@ -35,24 +35,32 @@ pub record ReadNone (dev : ℕ) (gone : Bool) (told told' : Option Machine) (s s
   pub same : s' ≡ record s { trace = option_map (after_nothing gone) s.trace }
   pub from : FoundNothing dev (seat_id s) (not gone) told told'
 
--- at most `most` scans were taken, and their bytes were appended; or the first take found nothing
-abbrev pub TakesScans : (dev most : ℕ) → (told told' : Option Machine) → (s s' : SeatRecord) → (before after : List ℕ) → Took → Type 0
-TakesScans dev most told told' s s' before after Scan =
-    (scans : List (List ℕ)) × (after ≡ before ++ joined_scans scans) × ReadSome dev most told told' s s' scans
-TakesScans dev most told told' s s' before after Empty = (after ≡ before) × ReadNone dev false told told' s s'
-TakesScans dev most told told' s s' before after Gone = (after ≡ before) × ReadNone dev true told told' s s'
+-- what a READBUF changes: the devices, if they tell their state, the seat, and the bytes so far
+pub record Reading : Type 0 where
+  pub told : Option Machine
+  pub seat : SeatRecord
+  pub out : List ℕ
 
--- at most `most` scans were taken, and a block of them was appended; or the first take found nothing
-abbrev pub ReadsBlock : (channels dev most mask asked : ℕ) → (told told' : Option Machine) → (s s' : SeatRecord) → (before after : List ℕ) → Took → Type 0
-ReadsBlock channels dev most mask asked told told' s s' before after Scan =
-    (scans : List (List ℕ)) × (after ≡ before ++ block_text channels mask (joined_scans scans) asked) × ReadSome dev most told told' s s' scans
-ReadsBlock channels dev most mask asked told told' s s' before after Empty = (after ≡ before) × ReadNone dev false told told' s s'
-ReadsBlock channels dev most mask asked told told' s s' before after Gone = (after ≡ before) × ReadNone dev true told told' s s'
+abbrev pub reading : Option Machine → SeatRecord → List ℕ → Reading
+reading told seat out = record { told = told; seat = seat; out = out }
+
+-- at most `most` scans were taken, and this text of them was appended; or the first take found nothing
+abbrev pub TakesAs : (text : List (List ℕ) → List ℕ) → (dev most : ℕ) → Reading → Reading → Took → Type 0
+TakesAs text dev most x y Scan = (scans : List (List ℕ)) × (y.out ≡ x.out ++ text scans) × ReadSome dev most x.told y.told x.seat y.seat scans
+TakesAs text dev most x y Empty = (y.out ≡ x.out) × ReadNone dev false x.told y.told x.seat y.seat
+TakesAs text dev most x y Gone = (y.out ≡ x.out) × ReadNone dev true x.told y.told x.seat y.seat
+
+-- ... their bytes
+abbrev pub TakesScans : (dev most : ℕ) → Reading → Reading → Took → Type 0
+TakesScans dev most x y took = TakesAs joined_scans dev most x y took
+
+-- ... a block of them
+abbrev pub block_of : (channels mask asked : ℕ) → List (List ℕ) → List ℕ
+block_of channels mask asked scans = block_text channels mask (joined_scans scans) asked
 
 -- a READBUF of `asked` bytes for at least one scan: the block of the scans that its takes gave, or the answer of the first
 -- take. If memory ran out, no take was made
-abbrev pub ReadEnds : Front → (dev mask capacity asked : ℕ) → (told told' : Option Machine) → (s s' : SeatRecord) → (before after : List ℕ) → Result Took Mem
-    → Type 0
-ReadEnds front dev mask capacity asked told told' s s' before after (Ok took) =
-    ReadsBlock (channel_count front dev) dev (most_scans asked (size_at front dev mask) capacity) mask asked told told' s s' before after took
-ReadEnds front dev mask capacity asked told told' s s' before after (Err mem) = (after ≡ before) × (told' ≡ told) × (s' ≡ s)
+abbrev pub ReadEnds : Front → (dev asked : ℕ) → Reading → Reading → Result Took Mem → Type 0
+ReadEnds front dev asked x y (Ok took) =
+    TakesAs (block_of (channel_count front dev) x.seat.mask asked) dev (most_scans asked (size_at front dev x.seat.mask) x.seat.capacity) x y took
+ReadEnds front dev asked x y (Err mem) = (y.out ≡ x.out) × (y.told ≡ x.told) × (y.seat ≡ x.seat)

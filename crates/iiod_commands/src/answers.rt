@@ -23,7 +23,6 @@ pub(crate) const SHORT_ANSWER: usize = 20 + 1;
 /// The most bytes of an answer, except those of READBUF and the texts of HELP, VERSION, PRINT and GETTRIG, which change
 /// nothing: the count, the longest value, and an LF after each. This room is taken before a command is performed, so that a
 /// command that was performed is answered.
-/// was done is answered.
 pub(crate) const ANSWER_ROOM: usize = 2 + 1 + 32 + 1;
 
 // The number of the error that is answered if memory runs out.

@@ -7,7 +7,7 @@ ghost use Rattle.iiod_grammar.specs.View.{place_view, target_view};
 ghost use Rattle.iiod_commands.specs.Acts.{read_attribute_at, read_buffer_attribute_at, read_device_attribute, write_attribute_at};
 ghost use Rattle.iiod_commands.specs.Answers.{Fits, IsText, ServesBy, reply_of};
 ghost use Rattle.iiod_commands.specs.Attributes.{buffer_number};
-ghost use Rattle.iiod_commands.specs.Client.{ClientRecord, IsClient, IsHeld, seat_state_of, client_of, place_of, trace_of, traces_of};
+ghost use Rattle.iiod_commands.specs.Client.{ClientRecord, IsClient, IsHeld, seat_state_of, client_of, place_of, trace_of, traces_of, state_of};
 ghost use Rattle.iio_core.specs.Machine.{lost_of, queue_of};
 ghost use Rattle.iiod_commands.specs.Performs.{Comes};
 ghost use Rattle.iiod_commands.specs.Seat.{seat_id};
@@ -153,9 +153,8 @@ pub(crate) fn write_attribute<I: Iio>(
 ) -> Result<Answer, No>
     ensures kept { I.kept iio.new ≡ I.kept iio.old }
     ensures fits { Fits result }
-    ensures served { ServesBy (I.front (I.kept iio.old)) (I.told iio.old) (client_of I.seen client.now) (traces_of I.seen client.now.held.items)
-        (Written device.now (option_map target_view target.entry) payload.now)
-        result (I.told iio.new) (client_of I.seen client.now) (traces_of I.seen client.now.held.items) }
+    ensures served { ServesBy (I.front (I.kept iio.old)) (state_of I.seen (I.told iio.old) client.now)
+        (Written device.now (option_map target_view target.entry) payload.now) result (state_of I.seen (I.told iio.new) client.now) }
 {
     let (place, name) = target.ok_or(Errno::EINVAL)?;
     let dev = iio.find(device).ok_or(Errno::ENODEV)?;

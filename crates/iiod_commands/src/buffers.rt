@@ -7,8 +7,9 @@ ghost use Rattle.iiod_commands.specs.Acts.{remask_known, set_buffers_at, write_b
 ghost use Rattle.iiod_commands.specs.Answers.{Fits, ServesBy};
 ghost use Rattle.iiod_commands.specs.declared.client.BuffersCount.{BuffersCount};
 ghost use Rattle.iiod_commands.specs.declared.manner.Manner.{Manner};
-ghost use Rattle.iiod_commands.specs.Client.{IsClient, client_of, traces_of, with_count};
-ghost use Rattle.iiod_commands.specs.Performs.{AnswersInRoom, AnswersRead, Comes, HasRoomAfter, Performs, RemasksBy, client_by, reply_by, taken_by};
+ghost use Rattle.iiod_commands.specs.Client.{IsClient, client_of, traces_of, state_of, answering, with_count};
+ghost use Rattle.iiod_commands.specs.Performs.{AnswersInRoom, AnswersRead, Comes, HasRoomAfter, Performs, client_by, reply_by, taken_by, MovesBy};
+ghost use Rattle.iiod_commands.specs.Moves.{RemasksAt};
 
 use crate::answers::{Answer, finish};
 use crate::client::{BuffersCount, Client, MAX_BUFFERS};
@@ -34,8 +35,8 @@ pub(crate) fn remask_known<I: Iio>(
     ensures told { IfSome (I.told iio.old) (λ m. Comes m (client_of I.seen client.old)
         (remask_known (I.front (I.kept iio.old)) m (client_of I.seen client.old) text.now dev)
         (reply_by result) (I.told iio.new) (client_of I.seen client.new)) }
-    ensures moves { RemasksBy (I.front (I.kept iio.old)) dev text.now (client_of I.seen client.old) (traces_of I.seen client.old.held.items)
-        result (client_of I.seen client.new) (traces_of I.seen client.new.held.items) }
+    ensures moves { MovesBy (RemasksAt (I.front (I.kept iio.old)) dev text.now) (state_of I.seen (I.told iio.old) client.old) result
+        (state_of I.seen (I.told iio.new) client.new) }
 {
     if !is_input(iio, dev) {
         return Err(No::Errno(unknown_refusal(iio, dev)));
@@ -56,9 +57,8 @@ pub fn read_buffer<I: Iio>(
     requires client { IsClient I.seen (I.front (I.kept iio.old)) client.old }
     ensures kept { I.kept iio.new ≡ I.kept iio.old }
     ensures client { IsClient I.seen (I.front (I.kept iio.new)) client.new }
-    ensures served { IfOk result (Performs manner (I.front (I.kept iio.old)) (I.told iio.old) (I.told iio.new)
-        (client_of I.seen client.old) (traces_of I.seen client.old.held.items) (Said (Ok (ReadBuf device.now asked)))
-        (client_of I.seen client.new) (traces_of I.seen client.new.held.items) out.old.items out.new.items) }
+    ensures served { IfOk result (Performs manner (I.front (I.kept iio.old)) (answering (state_of I.seen (I.told iio.old) client.old) out.old.items)
+        (Said (Ok (ReadBuf device.now asked))) (answering (state_of I.seen (I.told iio.new) client.new) out.new.items)) }
     ensures answers { AnswersInRoom manner out.old.items (vec_capacity out.old) result }
 {
     match iio.find(device) {
@@ -164,8 +164,8 @@ pub(crate) fn write_buffer<I: Iio>(
     ensures kept { I.kept iio.new ≡ I.kept iio.old }
     ensures client { IsClient I.seen (I.front (I.kept iio.new)) client.new }
     ensures fits { Fits result }
-    ensures served { ServesBy (I.front (I.kept iio.old)) (I.told iio.old) (client_of I.seen client.old) (traces_of I.seen client.old.held.items)
-        (Streamed device.now payload.now) result (I.told iio.new) (client_of I.seen client.new) (traces_of I.seen client.new.held.items) }
+    ensures served { ServesBy (I.front (I.kept iio.old)) (state_of I.seen (I.told iio.old) client.old) (Streamed device.now payload.now) result
+        (state_of I.seen (I.told iio.new) client.new) }
 {
     let dev = iio.find(device).ok_or(Errno::ENODEV)?;
     let taken = write_buffer_at(client, iio, dev, payload)?;

@@ -102,7 +102,7 @@ pub enum Took {
 pub struct Counts {
     /// The number of scans that wait.
     pub waiting: u64,
-    /// The number of scans lost because the queue was full.
+    /// The number of scans lost because the queue was full; at an output device, how often it found no scan waiting.
     pub lost: u64,
 }
 
@@ -118,7 +118,7 @@ pub trait Iio {
     ghost use Rattle.iio_core.specs.Front.{Front, find_device, find_trigger, kind_at, shape_at, trigger_name};
     ghost use Rattle.iio_core.specs.Machine.{Machine, is_plugged, lost_of, queue_of};
     ghost use Rattle.iio_core.specs.Calls.{machine_after_close, ev_close_of, ev_open_of, ev_read_of, open_of, read_attr_of, remask_of, set_trigger_of, trigger_of, write_attr_of, write_scans_of};
-    ghost use Rattle.iiod_commands.specs.Reading.{TakesScans};
+    ghost use Rattle.iiod_commands.specs.Reading.{TakesScans, reading};
     ghost use Rattle.iiod_commands.specs.Seat.{Answers, IsNew, IsOfDevice, MayOpen, Remasks, SeatRecord, Takes, after_take, seat_id, number_by};
     ghost use Rattle.iiod_commands.specs.Target.{MayRead, MayWrite};
     ghost use Rattle.iiod_commands.specs.declared.iio.No.{No};
@@ -242,11 +242,12 @@ pub trait Iio {
         requires some { 1 ≤ most }
         requires room { length out.old.items + most * (seen seat.old).size ≤ vec_capacity out.old }
         ensures kept { kept self.new ≡ kept self.old }
-        ensures takes { TakesScans dev most (told self.old) (told self.new) (seen seat.old) (seen seat.new) out.old.items out.new.items result }
+        ensures takes { TakesScans dev most (reading (told self.old) (seen seat.old) out.old.items) (reading (told self.new) (seen seat.new) out.new.items)
+            result }
         ensures most { length out.new.items ≤ length out.old.items + most * (seen seat.old).size }
         ensures room { vec_capacity out.old ≤ vec_capacity out.new };
 
-    /// The counts of the seat's queue; at an output device `lost` is how often the device found no scan waiting there.
+    /// The counts of the seat's queue.
     fn counts(&mut self, dev: u32, seat: &mut Self::Seat) -> Counts
         requires dev { dev < length (front (kept self.old)).devices }
         requires owned { IsOfDevice (front (kept self.old)) dev (seen seat.old) }

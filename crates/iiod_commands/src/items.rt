@@ -4,7 +4,7 @@ ghost use Rattle.std.specs.Prelude.{◌≡◌, ◌<◌, length, option_map, vec_
 ghost use Rattle.iiod_grammar.specs.Stream.{Said, Streamed, Written};
 ghost use Rattle.iiod_grammar.specs.View.{command_view, target_view};
 ghost use Rattle.iiod_commands.specs.Answers.{Fits, IsAt, ServesBy};
-ghost use Rattle.iiod_commands.specs.Client.{IsClient, client_of, traces_of};
+ghost use Rattle.iiod_commands.specs.Client.{IsClient, state_of, answering};
 ghost use Rattle.iiod_commands.specs.Performs.{AnswersInRoom, IsAtOnce, Performs};
 ghost use Rattle.iiod_commands.specs.declared.manner.Progress.{Progress};
 
@@ -37,8 +37,8 @@ fn at_device<I: Iio>(
     ensures kept { I.kept iio.new ≡ I.kept iio.old }
     ensures client { IsClient I.seen (I.front (I.kept iio.new)) client.new }
     ensures fits { Fits result }
-    ensures served { ServesBy (I.front (I.kept iio.old)) (I.told iio.old) (client_of I.seen client.old) (traces_of I.seen client.old.held.items)
-        (Said (Ok (command_view command.now))) result (I.told iio.new) (client_of I.seen client.new) (traces_of I.seen client.new.held.items) }
+    ensures served { ServesBy (I.front (I.kept iio.old)) (state_of I.seen (I.told iio.old) client.old) (Said (Ok (command_view command.now))) result
+        (state_of I.seen (I.told iio.new) client.new) }
 {
     match dev {
         None => Err(No::Errno(Errno::ENODEV)),
@@ -88,8 +88,8 @@ fn answer_to<I: Iio>(
     ensures kept { I.kept iio.new ≡ I.kept iio.old }
     ensures client { IsClient I.seen (I.front (I.kept iio.new)) client.new }
     ensures fits { Fits result }
-    ensures served { ServesBy (I.front (I.kept iio.old)) (I.told iio.old) (client_of I.seen client.old) (traces_of I.seen client.old.held.items)
-        (Said (Ok (command_view command.now))) result (I.told iio.new) (client_of I.seen client.new) (traces_of I.seen client.new.held.items) }
+    ensures served { ServesBy (I.front (I.kept iio.old)) (state_of I.seen (I.told iio.old) client.old) (Said (Ok (command_view command.now))) result
+        (state_of I.seen (I.told iio.new) client.new) }
 {
     match *command {
         Command::Help => Ok(Answer::Help),
@@ -129,9 +129,8 @@ pub fn perform<I: Iio>(
     requires at_once { IsAtOnce (Ok (command_view command.now)) }
     ensures kept { I.kept iio.new ≡ I.kept iio.old }
     ensures client { IsClient I.seen (I.front (I.kept iio.new)) client.new }
-    ensures served { OnOk result (Performs manner (I.front (I.kept iio.old)) (I.told iio.old) (I.told iio.new)
-        (client_of I.seen client.old) (traces_of I.seen client.old.held.items) (Said (Ok (command_view command.now)))
-        (client_of I.seen client.new) (traces_of I.seen client.new.held.items) out.old.items out.new.items Progress.Done) }
+    ensures served { OnOk result (Performs manner (I.front (I.kept iio.old)) (answering (state_of I.seen (I.told iio.old) client.old) out.old.items)
+        (Said (Ok (command_view command.now))) (answering (state_of I.seen (I.told iio.new) client.new) out.new.items) Progress.Done) }
     ensures answers { AnswersInRoom manner out.old.items (vec_capacity out.old) result }
 {
     if out.reserve(ANSWER_ROOM).is_err() {
@@ -150,9 +149,8 @@ pub fn perform_refused<I: Iio>(
     why: Refused,
     out: &mut Vec<u8>,
 ) -> Result<Progress, Mem>
-    ensures served { IfOk result (Performs manner (I.front (I.kept iio.now)) (I.told iio.now) (I.told iio.now)
-        (client_of I.seen client.now) (traces_of I.seen client.now.held.items) (Said (Err why))
-        (client_of I.seen client.now) (traces_of I.seen client.now.held.items) out.old.items out.new.items) }
+    ensures served { IfOk result (Performs manner (I.front (I.kept iio.now)) (answering (state_of I.seen (I.told iio.now) client.now) out.old.items)
+        (Said (Err why)) (answering (state_of I.seen (I.told iio.now) client.now) out.new.items)) }
     ensures answers { AnswersInRoom manner out.old.items (vec_capacity out.old) result }
 {
     match why {
@@ -178,10 +176,8 @@ pub fn perform_written<I: Iio>(
     ensures kept { I.kept iio.new ≡ I.kept iio.old }
     ensures client { IsClient I.seen (I.front (I.kept iio.new)) client.new }
     ensures done { IfOk result (λ p. p ≡ Progress.Done) }
-    ensures served { IfOk result (Performs manner (I.front (I.kept iio.old)) (I.told iio.old) (I.told iio.new)
-        (client_of I.seen client.old) (traces_of I.seen client.old.held.items)
-        (Written device.now (option_map target_view target.entry) payload.now)
-        (client_of I.seen client.new) (traces_of I.seen client.new.held.items) out.old.items out.new.items) }
+    ensures served { IfOk result (Performs manner (I.front (I.kept iio.old)) (answering (state_of I.seen (I.told iio.old) client.old) out.old.items)
+        (Written device.now (option_map target_view target.entry) payload.now) (answering (state_of I.seen (I.told iio.new) client.new) out.new.items)) }
     ensures answers { AnswersInRoom manner out.old.items (vec_capacity out.old) result }
 {
     if out.reserve(ANSWER_ROOM).is_err() {
@@ -205,9 +201,8 @@ pub fn perform_streamed<I: Iio>(
     ensures kept { I.kept iio.new ≡ I.kept iio.old }
     ensures client { IsClient I.seen (I.front (I.kept iio.new)) client.new }
     ensures done { IfOk result (λ p. p ≡ Progress.Done) }
-    ensures served { IfOk result (Performs manner (I.front (I.kept iio.old)) (I.told iio.old) (I.told iio.new)
-        (client_of I.seen client.old) (traces_of I.seen client.old.held.items) (Streamed device.now payload.now)
-        (client_of I.seen client.new) (traces_of I.seen client.new.held.items) out.old.items out.new.items) }
+    ensures served { IfOk result (Performs manner (I.front (I.kept iio.old)) (answering (state_of I.seen (I.told iio.old) client.old) out.old.items)
+        (Streamed device.now payload.now) (answering (state_of I.seen (I.told iio.new) client.new) out.new.items)) }
     ensures answers { AnswersInRoom manner out.old.items (vec_capacity out.old) result }
 {
     if out.reserve(ANSWER_ROOM).is_err() {

@@ -3,7 +3,7 @@
 ghost use Rattle.std.specs.Prelude.{◌≡◌, ◌+◌, ◌*◌, ◌≤◌, ◌<◌, ◌^◌, length, vec_capacity, false};
 ghost use Rattle.iio_desc.specs.Kind.{is_output};
 ghost use Rattle.iio_core.specs.Front.{channel_count, kind_at, size_at};
-ghost use Rattle.iiod_commands.specs.Reading.{ReadEnds, ReadsBlock};
+ghost use Rattle.iiod_commands.specs.Reading.{ReadEnds, reading, TakesAs, block_of};
 ghost use Rattle.iiod_commands.specs.Seat.{IsOfDevice, IsOwned, MayOpen};
 
 use crate::iio::{Iio, Took};
@@ -40,8 +40,8 @@ fn read_into<I: Iio>(
     requires below { mask.bits < 2 ^ channel_count (I.front (I.kept iio.old)) dev }
     requires space { length out.old.items + (want * size + BLOCK_FRAME) ≤ vec_capacity out.old }
     ensures kept { I.kept iio.new ≡ I.kept iio.old }
-    ensures read { ReadsBlock (channel_count (I.front (I.kept iio.old)) dev) dev want mask.bits asked
-        (I.told iio.old) (I.told iio.new) (I.seen seat.old) (I.seen seat.new) out.old.items out.new.items result }
+    ensures read { TakesAs (block_of (channel_count (I.front (I.kept iio.old)) dev) mask.bits asked) dev want
+        (reading (I.told iio.old) (I.seen seat.old) out.old.items) (reading (I.told iio.new) (I.seen seat.new) out.new.items) result }
     ensures capacity { vec_capacity out.old ≤ vec_capacity out.new }
 {
     let channels = iio.shape(dev).count();
@@ -79,8 +79,8 @@ pub(crate) fn read_sized<I: Iio>(
     requires some { 1 ≤ size }
     requires asked { size ≤ asked }
     ensures kept { I.kept iio.new ≡ I.kept iio.old }
-    ensures ends { ReadEnds (I.front (I.kept iio.old)) dev mask.bits capacity asked
-        (I.told iio.old) (I.told iio.new) (I.seen seat.old) (I.seen seat.new) out.old.items out.new.items result }
+    ensures ends { ReadEnds (I.front (I.kept iio.old)) dev asked (reading (I.told iio.old) (I.seen seat.old) out.old.items)
+        (reading (I.told iio.new) (I.seen seat.new) out.new.items) result }
     ensures capacity { vec_capacity out.old ≤ vec_capacity out.new }
 {
     let want = (asked / size).min(capacity);
@@ -108,8 +108,8 @@ pub fn read_scans<I: Iio>(
     requires owned { IsOwned (I.front (I.kept iio.old)) dev mask.bits capacity (I.seen seat.old) }
     requires asked { size_at (I.front (I.kept iio.old)) dev mask.bits ≤ asked }
     ensures kept { I.kept iio.new ≡ I.kept iio.old }
-    ensures ends { ReadEnds (I.front (I.kept iio.old)) dev mask.bits capacity asked
-        (I.told iio.old) (I.told iio.new) (I.seen seat.old) (I.seen seat.new) out.old.items out.new.items result }
+    ensures ends { ReadEnds (I.front (I.kept iio.old)) dev asked (reading (I.told iio.old) (I.seen seat.old) out.old.items)
+        (reading (I.told iio.new) (I.seen seat.new) out.new.items) result }
     ensures capacity { vec_capacity out.old ≤ vec_capacity out.new }
 {
     let size = scan_size(iio.shape(dev), mask);

@@ -4,13 +4,15 @@ ghost use Rattle.std.specs.Prelude.{◌≡◌, ◌<◌, ◌≤◌, ◌&&◌, not
 ghost use Rattle.iiod_commands.specs.Acts.{close_at, joined_at, open_at, remask_at, write_at_place};
 ghost use Rattle.iio_desc.specs.Kind.{is_input, is_output};
 ghost use Rattle.iio_core.specs.Front.{kind_at, size_at};
-ghost use Rattle.iiod_commands.specs.Client.{IsClient, IsHeld, seat_state_of, buffers_of, client_of, place_of, seats_of, trace_of, traces_of};
-ghost use Rattle.iiod_commands.specs.Performs.{Comes, JoinsBy, LeavesBy, OpensBy, ReadAt, ReadHeld, RemaskMoves, RemaskTold, RemasksBy, WritesHeld, reply_by, taken_by};
+ghost use Rattle.iiod_commands.specs.Client.{IsClient, IsHeld, seat_state_of, buffers_of, client_of, place_of, seats_of, trace_of, traces_of, state_of, answering};
+ghost use Rattle.iiod_commands.specs.Performs.{Comes, ReadAt, ReadHeld, RemaskMoves, RemaskTold, WritesHeld, reply_by, taken_by, MovesBy};
 ghost use Rattle.iio_core.specs.Calls.{open_of};
 ghost use Rattle.iiod_commands.specs.Seat.{Answers, IsNew, MayOpen, SeatRecord, number_by};
 ghost use Rattle.iiod_commands.specs.Wanted.{wanted_of_code};
 ghost use Rattle.iio_text.specs.declared.errors.Errno.{Errno};
 ghost use Rattle.iiod_commands.specs.declared.iio.No.{No};
+ghost use Rattle.iiod_commands.specs.Reading.{reading};
+ghost use Rattle.iiod_commands.specs.Moves.{JoinsAt, OpensAt, LeavesAt, RemasksAt};
 
 use crate::answers::push_refusal;
 use crate::client::{BuffersCount, Client, FIRST_BUFFERS, OpenSeat};
@@ -83,8 +85,8 @@ fn join<I: Iio>(
     ensures told { IfSome (I.told iio.old) (λ m. Comes m (client_of I.seen client.old)
         (joined_at (I.front (I.kept iio.old)) m (client_of I.seen client.old) dev (wanted_of_code wanted) cyclic)
         (reply_by result) (I.told iio.new) (client_of I.seen client.new)) }
-    ensures moves { JoinsBy dev (wanted_of_code wanted) (client_of I.seen client.old) (traces_of I.seen client.old.held.items)
-        result (client_of I.seen client.new) (traces_of I.seen client.new.held.items) }
+    ensures moves { MovesBy (JoinsAt dev (wanted_of_code wanted)) (state_of I.seen (I.told iio.old) client.old) result
+        (state_of I.seen (I.told iio.new) client.new) }
 {
     client.held.reserve(1)?;
     let seat = open_seat(iio, dev, wanted.mask, wanted.capacity, cyclic)?;
@@ -115,8 +117,8 @@ pub(crate) fn open_at<I: Iio>(
     ensures told { IfSome (I.told iio.old) (λ m. Comes m (client_of I.seen client.old)
         (open_at (I.front (I.kept iio.old)) m (client_of I.seen client.old) dev samples text.now cyclic)
         (reply_by result) (I.told iio.new) (client_of I.seen client.new)) }
-    ensures moves { OpensBy (I.front (I.kept iio.old)) dev samples text.now cyclic (client_of I.seen client.old) (traces_of I.seen client.old.held.items)
-        result (client_of I.seen client.new) (traces_of I.seen client.new.held.items) }
+    ensures moves { MovesBy (OpensAt (I.front (I.kept iio.old)) dev samples text.now cyclic) (state_of I.seen (I.told iio.old) client.old) result
+        (state_of I.seen (I.told iio.new) client.new) }
 {
     let is_open = place(&client.held, dev).is_some();
     let plugged = iio.plugged(dev);
@@ -147,8 +149,7 @@ pub(crate) fn close_at<I: Iio>(
         (close_at (I.front (I.kept iio.old)) m (client_of I.seen client.old) (place_of dev (seats_of I.seen client.old.held.items)))
         (reply_by result) (I.told iio.new) (client_of I.seen client.new)) }
     ensures none { place_of dev (seats_of I.seen client.old.held.items) ≡ None → result ≡ Err (No.Errno Errno.EBADF) }
-    ensures moves { LeavesBy dev (client_of I.seen client.old) (traces_of I.seen client.old.held.items)
-        result (client_of I.seen client.new) (traces_of I.seen client.new.held.items) }
+    ensures moves { MovesBy (LeavesAt dev) (state_of I.seen (I.told iio.old) client.old) result (state_of I.seen (I.told iio.new) client.new) }
 {
     let Some(i) = place(&client.held, dev) else {
         return Err(No::Errno(Errno::EBADF));
@@ -201,8 +202,8 @@ pub(crate) fn remask_at<I: Iio>(
     ensures told { IfSome (I.told iio.old) (λ m. Comes m (client_of I.seen client.old)
         (remask_at (I.front (I.kept iio.old)) m (client_of I.seen client.old) text.now dev)
         (reply_by result) (I.told iio.new) (client_of I.seen client.new)) }
-    ensures moves { RemasksBy (I.front (I.kept iio.old)) dev text.now (client_of I.seen client.old) (traces_of I.seen client.old.held.items)
-        result (client_of I.seen client.new) (traces_of I.seen client.new.held.items) }
+    ensures moves { MovesBy (RemasksAt (I.front (I.kept iio.old)) dev text.now) (state_of I.seen (I.told iio.old) client.old) result
+        (state_of I.seen (I.told iio.new) client.new) }
 {
     ensure(iio.plugged(dev), Errno::ENODEV)?;
     let Some(i) = place(&client.held, dev) else {
@@ -223,8 +224,8 @@ fn read_held<I: Iio>(
     ensures kept { I.kept iio.new ≡ I.kept iio.old }
     ensures held { IsHeld I.seen (I.front (I.kept iio.new)) h.new }
     ensures bare { seat_state_of I.seen h.new ≡ seat_state_of I.seen h.old }
-    ensures read { ReadHeld (I.front (I.kept iio.old)) asked (I.told iio.old) (I.told iio.new)
-        (seat_state_of I.seen h.old) (trace_of I.seen h.old) (trace_of I.seen h.new) out.old.items out.new.items result }
+    ensures read { ReadHeld (I.front (I.kept iio.old)) asked (seat_state_of I.seen h.old)
+        (reading (I.told iio.old) (I.seen h.old.seat) out.old.items) (reading (I.told iio.new) (I.seen h.new.seat) out.new.items) result }
     ensures capacity { vec_capacity out.old ≤ vec_capacity out.new }
 {
     if asked < h.size {
@@ -256,8 +257,8 @@ pub(crate) fn read_at<I: Iio>(
     ensures kept { I.kept iio.new ≡ I.kept iio.old }
     ensures client { IsClient I.seen (I.front (I.kept iio.new)) client.new }
     ensures same { client_of I.seen client.new ≡ client_of I.seen client.old }
-    ensures read { ReadAt (I.front (I.kept iio.old)) dev asked (I.told iio.old) (I.told iio.new)
-        (client_of I.seen client.old) (traces_of I.seen client.old.held.items) (traces_of I.seen client.new.held.items) out.old.items out.new.items result }
+    ensures read { ReadAt (I.front (I.kept iio.old)) dev asked (answering (state_of I.seen (I.told iio.old) client.old) out.old.items)
+        (answering (state_of I.seen (I.told iio.new) client.new) out.new.items) result }
     ensures capacity { vec_capacity out.old ≤ vec_capacity out.new }
 {
     match place(&client.held, dev) {

@@ -12,7 +12,7 @@ use Rattle.iiod_session.specs.declared.going.Going.TheVariants as going
 use Rattle.iiod_commands.specs.declared.manner.Manner.{Manner}
 use Rattle.iiod_commands.specs.declared.manner.Manner.TheVariants.{Server}
 use Rattle.iiod_commands.specs.Performs.{IsReadOf}
-use Rattle.iiod_session.specs.Run.{Feeds}
+use Rattle.iiod_session.specs.Run.{Feeds, feeding}
 use Rattle.iio_desc.specs.Description.{no_shape}
 use Rattle.iio_desc.specs.Kind.{Input}
 use Rattle.iio_core.specs.Front.{Front, find_device}
@@ -67,12 +67,12 @@ part_of (Some ys) new text w = record { sent = take w.count text; rest = drop w.
 -- ---- one feed
 
 pub feeds_once : (front : Front) (m : Manner) (a b : Place) (bytes before after text : List ℕ) (going : Going) → m ≡ Server → before ≡ [] → after ≡ text
-    → Feeds m front a.state (scan_on a.stream bytes) before after b.state b.stream going → FeedsOnce front a bytes text going b
+    → Feeds m front (feeding a.state (scan_on a.stream bytes) before) (feeding b.state b.stream after) going → FeedsOnce front a bytes text going b
 feeds_once front m a b bytes before after text going e d f fed = record {
   feeds =
-      subst (λ (xs : List ℕ). Feeds Server front a.state (scan_on a.stream bytes) [] xs b.state b.stream going) f
-      (subst (λ (xs : List ℕ). Feeds Server front a.state (scan_on a.stream bytes) xs after b.state b.stream going) d
-      (subst (λ (x : Manner). Feeds x front a.state (scan_on a.stream bytes) before after b.state b.stream going) e fed));
+      subst (λ (xs : List ℕ). Feeds Server front (feeding a.state (scan_on a.stream bytes) []) (feeding b.state b.stream xs) going) f
+      (subst (λ (xs : List ℕ). Feeds Server front (feeding a.state (scan_on a.stream bytes) xs) (feeding b.state b.stream after) going) d
+      (subst (λ (x : Manner). Feeds x front (feeding a.state (scan_on a.stream bytes) before) (feeding b.state b.stream after) going) e fed));
 }
 
 read_within : (front : Front) (dev : ℕ) (item : Item) → IsReadOf front dev item → dev < length front.devices

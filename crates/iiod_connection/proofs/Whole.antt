@@ -14,9 +14,9 @@ use Rattle.iio_core.specs.Front.{Front}
 use Rattle.iiod_commands.specs.Acts.{left_machine}
 use Rattle.iiod_commands.specs.declared.client.BuffersCount.{BuffersCount}
 use Rattle.iiod_commands.specs.declared.client.OpenSeat.{OpenSeat}
-use Rattle.iiod_commands.specs.Client.{seats_of, traces_of}
+use Rattle.iiod_commands.specs.Client.{State, seats_of, traces_of}
 use Rattle.iio_core.specs.Machine.{Machine}
-use Rattle.iiod_session.specs.Run.{Stands, State}
+use Rattle.iiod_session.specs.Run.{Stands}
 use Rattle.iiod_commands.specs.Seat.{SeatRecord}
 use Rattle.iiod_session.specs.Session.{IsFresh, SessionRecord}
 use Rattle.iiod_connection.specs.Answers.{Answers, FindsNothing}

@@ -10,7 +10,8 @@ use Rattle.iiod_commands.specs.declared.manner.Manner.TheVariants.{Server}
 use Rattle.iio_core.specs.Front.{Front}
 use Rattle.iiod_commands.specs.Moves.{Serves}
 use Rattle.iiod_commands.specs.Performs.{IsReadOf}
-use Rattle.iiod_session.specs.Run.{Run, State}
+use Rattle.iiod_session.specs.Run.{Run}
+use Rattle.iiod_commands.specs.Client.{State}
 use Rattle.iiod_connection.specs.Place.{Place}
 
 -- a READBUF that waits was tried, and found nothing
@@ -18,7 +19,7 @@ pub record FindsNothing (front : Front) (a b : State) : Type 0 where
   pub dev : ℕ
   pub item : Item
   pub read : IsReadOf front dev item
-  pub served : Serves front a.told a.client a.traces item (Refusal EAGAIN) b.told b.client b.traces
+  pub served : Serves front a item (Refusal EAGAIN) b
 
 -- these items, each with its answer, in n runs; between two of them a READBUF may have been tried
 abbrev pub Runs : ℕ → Front → State → List Item → List Reply → State → Type 0

@@ -2,7 +2,7 @@
 use Rattle.std.specs.Prelude.{ℕ, [], Option}
 use Rattle.iiod_grammar.specs.Stream.{InLine, Scanned, no_item}
 use Rattle.iio_core.specs.Machine.{Machine}
-use Rattle.iiod_session.specs.Run.{State, state_of}
+use Rattle.iiod_commands.specs.Client.{State, state_of}
 use Rattle.iiod_commands.specs.Seat.{SeatRecord}
 use Rattle.iiod_session.specs.Session.{SessionRecord}
 

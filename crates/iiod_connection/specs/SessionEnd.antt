@@ -49,11 +49,20 @@ abbrev pub IsClosed : Front → SessionEnd → Place → Option Machine → Type
 IsClosed front Memory b told = Unit {0}
 IsClosed front end b told = IfSome b.state.told (λ m. told ≡ Some (left_machine front m b.state.client))
 
+-- what a connection changes: the devices, if they tell their state, and what a link has: the bytes that come, and those that were
+-- written, if it tells them
+pub record Exchange : Type 0 where
+  pub told : Option Machine
+  pub left : Option (List ℕ)
+  pub written : Option (List ℕ)
+
+abbrev pub exchange : Option Machine → (left written : Option (List ℕ)) → Exchange
+exchange told left written = record { told = told; left = left; written = written }
+
 -- a connection from its first byte to its end
-abbrev pub IsServed : Front → (who : ℕ) → (told : Option Machine) → (left written : Option (List ℕ)) → SessionEnd
-    → (told' : Option Machine) → (left' written' : Option (List ℕ)) → Type 0
-IsServed front who told left written end told' left' written' =
-    (b : Place) × Ends (Answers front (first_place who told)) end left written left' written' b × IsClosed front end b told'
+abbrev pub IsServed : Front → (who : ℕ) → Exchange → SessionEnd → Exchange → Type 0
+IsServed front who x end y =
+    (b : Place) × Ends (Answers front (first_place who x.told)) end x.left x.written y.left y.written b × IsClosed front end b y.told
 
 -- the count of the link's faults rose if the link failed, and otherwise it stayed
 abbrev pub EndFaults : SessionEnd → ℕ → ℕ → Type 0

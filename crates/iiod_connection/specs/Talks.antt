@@ -7,7 +7,7 @@ use Rattle.iiod_session.specs.declared.going.Going.TheVariants.{On, Waits}
 use Rattle.iiod_session.specs.declared.going.Going.TheVariants as going
 use Rattle.iiod_commands.specs.declared.manner.Manner.TheVariants.{Server}
 use Rattle.iio_core.specs.Front.{Front}
-use Rattle.iiod_session.specs.Run.{Feeds}
+use Rattle.iiod_session.specs.Run.{Feeds, feeding}
 use Rattle.iiod_connection.specs.declared.session_end.SessionEnd.{SessionEnd}
 use Rattle.iiod_connection.specs.declared.session_end.SessionEnd.TheVariants.{Eof, Ended, LinkFault, Memory}
 use Rattle.iiod_connection.specs.Place.{Place}
@@ -15,7 +15,7 @@ use Rattle.iiod_connection.specs.SessionEnd.{EndFaults, WritesFront}
 
 -- one more feed, of these bytes: none if a READBUF that waits is tried again. What it appends are the answers
 pub record FeedsOnce (front : Front) (a : Place) (bytes text : List ℕ) (going : Going) (b : Place) : Type 0 where
-  pub feeds : Feeds Server front a.state (scan_on a.stream bytes) [] text b.state b.stream going
+  pub feeds : Feeds Server front (feeding a.state (scan_on a.stream bytes) []) (feeding b.state b.stream text) going
 
 -- n feeds, one after another: the bytes heard, in order, and the bytes of their answers, in order
 abbrev pub Talk : ℕ → Front → Place → (heard said : List ℕ) → Place → Type 0

@@ -1,12 +1,11 @@
 //! Serves a connection over a link.
 
 ghost use Rattle.std.specs.Prelude.{◌≡◌, ◌<◌, ◌≤◌, ◌+◌, ◌++◌, drop, [], length, Some, IfSome, IfOk, OnOk};
-ghost use Rattle.iiod_commands.specs.Client.{IsClient};
-ghost use Rattle.iiod_session.specs.Run.{state_of};
+ghost use Rattle.iiod_commands.specs.Client.{IsClient, state_of};
 ghost use Rattle.iiod_commands.specs.declared.manner.Manner.TheVariants.{Server};
 ghost use Rattle.iiod_connection.specs.Parts.{PartsAreShort, part_length};
 ghost use Rattle.iiod_connection.specs.Place.{Place, place_of};
-ghost use Rattle.iiod_connection.specs.SessionEnd.{EndFaults, Ends, IsServed};
+ghost use Rattle.iiod_connection.specs.SessionEnd.{EndFaults, Ends, IsServed, exchange};
 ghost use Rattle.iiod_connection.specs.Talks.{Faults, IsLast, SendsOnce, StandsBy, Talks, Turns};
 
 use crate::session_end::SessionEnd;
@@ -278,8 +277,8 @@ pub fn serve_on<L: Link, B: Bells, G: Gate, R: Wait>(
 ) -> SessionEnd
     ensures kept { B.kept iio.new ≡ B.kept iio.old }
     ensures faults { EndFaults result (L.faults link.old) (L.faults link.new) }
-    ensures served { IsServed (B.front (B.kept iio.old)) who (B.told iio.old) (L.left link.old) (L.written link.old) result
-        (B.told iio.new) (L.left link.new) (L.written link.new) }
+    ensures served { IsServed (B.front (B.kept iio.old)) who (exchange (B.told iio.old) (L.left link.old) (L.written link.old)) result
+        (exchange (B.told iio.new) (L.left link.new) (L.written link.new)) }
 {
     cut_anywhere();
     let Ok(mut session) = Session::new(alloc, who, Manner::Server) else {

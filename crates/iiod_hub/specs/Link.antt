@@ -1,12 +1,10 @@
 -- What a link makes of a bank that tells its state, by jobs; and what its seats are.
 use Rattle.std.specs.Prelude.{◌≡◌, ℕ, ℤ, ◌+◌, ◌-◌, ◌^◌, min, nat_lt, Bool, true, false, if◌then◌else◌, List, [], ◌∷◌, zero, suc, Option, Some, None, Result, Ok, Err}
 use Rattle.iio_mask.specs.declared.Mask.{Mask}
-use Rattle.iio_kfifo.specs.declared.tail.Offered.{Offered}
 use Rattle.iio_trigger.specs.Trigger.{State, Handed, Polls}
 use Rattle.iio_trigger.specs.declared.Polled.{Polled}
 use Rattle.iio_device.specs.declared.handling.Handled.{Handled}
-use Rattle.iio_device.specs.Device.{DeviceView, Handles}
-use Rattle.iio_core.specs.Front.{Front, size_at}
+use Rattle.iio_device.specs.Device.{DeviceView}
 use Rattle.iiod_commands.specs.declared.iio.No.{No}
 use Rattle.iiod_commands.specs.declared.iio.No.TheVariants.{Errno as NoErrno, Mem as NoMem}
 use Rattle.iiod_commands.specs.Seat.{SeatRecord}
@@ -16,7 +14,7 @@ use Rattle.iiod_hub.specs.declared.seat.HubSeat.{HubSeat}
 use Rattle.iiod_hub.specs.declared.seat.ReadEnd.{ReadEnd}
 use Rattle.iiod_bank.specs.Received.{received_of, size_of}
 use Rattle.iiod_bank.specs.Told.{Told, Ran, RanAt, Only}
-use Rattle.iiod_bank.specs.Jobs.{OpenMakes, open_refusal}
+use Rattle.iiod_bank.specs.Jobs.{Buffer, HandleMakes, OpenMakes, open_refusal}
 use Rattle.iiod_bank.specs.TriggerJobs.{DoneMakes, DueMakes}
 
 -- ---- seats
@@ -52,11 +50,10 @@ SeatOf dev mask capacity (Ok o) result = result ≡ Ok (seated dev mask capacity
 SeatOf dev mask capacity (Err e) result = result ≡ Err e
 
 -- an OPEN answers what its job answers, and the bank is as the job left it
-module _ (taken lost size capacity : WriterEnd → ℕ) where
-  pub record BankOpens (front : Front) (dev : ℕ) (mask : Mask) (scans : ℕ) (b : Told) (result : Result HubSeat No) (c : Told) : Type 0 where
-    pub answer : Result Opened No
-    pub ran : Ran (OpenMakes taken lost size capacity mask scans (size_at front dev mask.bits)) dev b answer c
-    pub seat : SeatOf dev mask scans answer result
+pub record BankOpens (dev : ℕ) (buffer : Buffer) (b : Told) (result : Result HubSeat No) (c : Told) : Type 0 where
+  pub answer : Result Opened No
+  pub ran : Ran (OpenMakes buffer) dev b answer c
+  pub seat : SeatOf dev buffer.mask buffer.scans answer result
 
 -- an errno is one by which a device of that number, in some state, refuses an OPEN of that mask
 abbrev pub RefusedBySome : (dev : ℕ) → Mask → Result HubSeat No → Type 0
@@ -66,27 +63,23 @@ RefusedBySome dev mask (Ok s) = Unit {0}
 
 -- ---- handling
 
-module _ (taken lost size capacity : WriterEnd → ℕ) (offer_gives : WriterEnd → List ℕ → Offered → WriterEnd → Type 0) where
-  abbrev pub HandleMakes : Handed → DeviceView WriterEnd → Option State → Handled → DeviceView WriterEnd → Option State → Type 0
-  HandleMakes due = Only (λ a o b. Handles taken lost size capacity offer_gives due o a b)
+-- an entry was handed out, handled at the device, and taken off: three steps, one after the other
+pub record Passes (trigger dev : ℕ) (b : Told) (due : Handed) (h : Handled) (c : Told) : Type 0 where
+  pub handed : Told
+  pub first : RanAt (DueMakes dev) trigger b (Some due) handed
+  pub kept : Told
+  pub second : Ran (Only (HandleMakes due)) dev handed h kept
+  pub found : Bool
+  pub third : RanAt (DoneMakes due) trigger kept found c
 
-  -- an entry was handed out, handled at the device, and taken off: three steps, one after the other
-  pub record Passes (trigger dev : ℕ) (b : Told) (due : Handed) (h : Handled) (c : Told) : Type 0 where
-    pub handed : Told
-    pub first : RanAt (DueMakes dev) trigger b (Some due) handed
-    pub kept : Told
-    pub second : Ran (HandleMakes due) dev handed h kept
-    pub found : Bool
-    pub third : RanAt (DoneMakes due) trigger kept found c
+abbrev pub BankHandles : ℕ → ℕ → Told → Option Handled → Told → Type 0
+BankHandles trigger dev b None c = RanAt (DueMakes dev) trigger b None c
+BankHandles trigger dev b (Some h) c = (due : Handed) × Passes trigger dev b due h c
 
-  abbrev pub BankHandles : ℕ → ℕ → Told → Option Handled → Told → Type 0
-  BankHandles trigger dev b None c = RanAt (DueMakes dev) trigger b None c
-  BankHandles trigger dev b (Some h) c = (due : Handed) × Passes trigger dev b due h c
-
-  -- the first devices are handed their entries, one after another
-  abbrev pub Swept : ℕ → ℕ → Told → Told → Type 0
-  Swept trigger zero b c = c ≡ b
-  Swept trigger (suc k) b c = (m : Told) × Swept trigger k b m × ((h : Option Handled) × BankHandles trigger k m h c)
+-- the first devices are handed their entries, one after another
+abbrev pub Swept : ℕ → ℕ → Told → Told → Type 0
+Swept trigger zero b c = c ≡ b
+Swept trigger (suc k) b c = (m : Told) × Swept trigger k b m × ((h : Option Handled) × BankHandles trigger k m h c)
 
 -- ---- ticks
 

@@ -3,11 +3,10 @@ use Rattle.std.specs.Prelude.{◌≡◌, ℕ, false, Some, Result, Ok, Err}
 use Rattle.iio_mask.specs.declared.Mask.{Mask}
 use Rattle.iio_kfifo.specs.Ends.{WriterEnd}
 use Rattle.iio_device.specs.Device.{DeviceView}
-use Rattle.iio_core.specs.Front.{Front, size_at}
 use Rattle.iiod_commands.specs.declared.iio.No.{No}
 use Rattle.iiod_commands.specs.declared.iio.No.TheVariants.{Errno as NoErrno, Mem as NoMem}
 use Rattle.iiod_bank.specs.declared.remasking.Remasked.{Remasked}
-use Rattle.iiod_bank.specs.Jobs.{RemaskMakes, remask_refusal}
+use Rattle.iiod_bank.specs.Jobs.{Buffer, RemaskMakes, remask_refusal}
 use Rattle.iiod_bank.specs.Told.{Only, Ran, Told}
 use Rattle.iiod_hub.specs.declared.seat.HubSeat.{HubSeat}
 
@@ -18,12 +17,11 @@ SeatAfter mask (Ok o) old (Ok n) new = new ≡ record old { mask = mask; reader 
 SeatAfter mask (Err e) old result new = (result ≡ Err e) × (new ≡ old)
 SeatAfter mask (Ok o) old (Err e) new = ⊥
 
-module _ (taken lost size capacity : WriterEnd → ℕ) where
-  -- a REMASK's job was run once, and the bank is as it left it
-  pub record BankRemasks (front : Front) (dev : ℕ) (mask : Mask) (b : Told) (old : HubSeat) (result : Result ℕ No) (new : HubSeat) (c : Told) : Type 0 where
-    pub answer : Result Remasked No
-    pub ran : Ran (Only (RemaskMakes taken lost size capacity old.member.number mask old.capacity (size_at front dev mask.bits))) dev b answer c
-    pub seat : SeatAfter mask answer old result new
+-- a REMASK's job was run once, and the bank is as it left it
+pub record BankRemasks (dev : ℕ) (buffer : Buffer) (b : Told) (old : HubSeat) (result : Result ℕ No) (new : HubSeat) (c : Told) : Type 0 where
+  pub answer : Result Remasked No
+  pub ran : Ran (Only (RemaskMakes old.member.number buffer)) dev b answer c
+  pub seat : SeatAfter buffer.mask answer old result new
 
 -- an errno is one by which a device of that number, in some state, refuses that mask to that member
 abbrev pub RemaskRefusedBySome : (dev number : ℕ) → Mask → Result ℕ No → Type 0

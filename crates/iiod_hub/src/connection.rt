@@ -2,7 +2,7 @@
 
 ghost use Rattle.std.specs.Prelude.{None};
 ghost use Rattle.iiod_bank.specs.FrontOf.{front_of};
-ghost use Rattle.iiod_connection.specs.SessionEnd.{EndFaults, IsServed};
+ghost use Rattle.iiod_connection.specs.SessionEnd.{EndFaults, IsServed, exchange};
 
 use crate::link::HubLink;
 use crate::locks::{Hub, Locks};
@@ -22,8 +22,8 @@ pub fn serve_connection<L: Link, G: Gate, R: Wait>(
     gate: &G,
 ) -> SessionEnd
     ensures faults { EndFaults result (L.faults link.old) (L.faults link.new) }
-    ensures served { IsServed (front_of hub.now.front) who None (L.left link.old) (L.written link.old) result
-        None (L.left link.new) (L.written link.new) }
+    ensures served { IsServed (front_of hub.now.front) who (exchange None (L.left link.old) (L.written link.old)) result
+        (exchange None (L.left link.new) (L.written link.new)) }
 {
     let mut iio = HubLink {
         bank: Locks { hub, rt },

@@ -6,10 +6,10 @@ ghost use Rattle.iio_kfifo.specs.Ends.{Ends, WriterEnd};
 ghost use Rattle.iio_desc.specs.declared.limits.TheConstants.{MAX_TRIGGERS};
 ghost use Rattle.iio_trigger.specs.Trigger.{Polls};
 ghost use Rattle.iio_core.specs.Front.{find_device, find_trigger, shape_at, size_at, trigger_name};
-ghost use Rattle.iiod_commands.specs.Reading.{TakesScans};
+ghost use Rattle.iiod_commands.specs.Reading.{TakesScans, reading};
 ghost use Rattle.iiod_commands.specs.Seat.{IsNew, IsOfDevice, MayOpen, Remasks, after_take};
 ghost use Rattle.iiod_commands.specs.Target.{MayRead, MayWrite};
-ghost use Rattle.iiod_bank.specs.Jobs.{EvCloseMakes, EvOpenMakes, EvReadMakes, LeaveMakes, LostMakes, ReadMakes, SetTriggerMakes, UnplugMakes, WriteMakes};
+ghost use Rattle.iiod_bank.specs.Jobs.{EvCloseMakes, EvOpenMakes, EvReadMakes, LeaveMakes, LostMakes, ReadMakes, SetTriggerMakes, UnplugMakes, WriteMakes, buffer_of};
 ghost use Rattle.iiod_hub.specs.Link.{BankHandles, BankOpens, RefusedBySome, Swept, seen_of};
 ghost use Rattle.iiod_hub.specs.Remasking.{BankRemasks, RemaskRefusedBySome};
 ghost use Rattle.iiod_bank.specs.Received.{SawClosed, SawOpen, received_of, size_of};
@@ -19,7 +19,7 @@ use crate::seat::HubSeat;
 use iio_attr::{Attr, Value};
 use iio_device::Handled;
 use iio_event::EventData;
-use iio_kfifo::{Ended, Reader, Tail, Writer};
+use iio_kfifo::{Ended, Reader, Writer};
 use iio_layout::{Shape, scan_size};
 use iio_mask::Mask;
 use iio_text::{Errno, Fixed};
@@ -106,8 +106,7 @@ impl<B: Bank> Iio for HubLink<B> {
         ensures dev { IfOk result (λ s. s.dev ≡ dev) }
         ensures refused { RefusedBySome dev mask result }
         ensures bank { Moves (B.told self.old.bank) (B.told self.new.bank) (λ b c.
-            BankOpens ⟦<Writer as Tail>⟧.taken ⟦<Writer as Tail>⟧.lost ⟦<Writer as Tail>⟧.size ⟦<Writer as Tail>⟧.capacity (B.front self.old.bank) dev mask
-            capacity b result c) }
+            BankOpens dev (buffer_of mask capacity (size_at (B.front self.old.bank) dev mask.bits)) b result c) }
     {
         let size = scan_size(self.bank.front().shape(dev), mask);
         let job = OpenJob::new(self.alloc, mask, capacity, size);
@@ -148,8 +147,7 @@ impl<B: Bank> Iio for HubLink<B> {
         ensures dev { seat.new.dev ≡ seat.old.dev }
         ensures refused { RemaskRefusedBySome dev seat.old.member.number mask result }
         ensures bank { Moves (B.told self.old.bank) (B.told self.new.bank) (λ b c.
-            BankRemasks ⟦<Writer as Tail>⟧.taken ⟦<Writer as Tail>⟧.lost ⟦<Writer as Tail>⟧.size ⟦<Writer as Tail>⟧.capacity (B.front self.old.bank) dev mask b
-            seat.old result seat.new c) }
+            BankRemasks dev (buffer_of mask seat.old.capacity (size_at (B.front self.old.bank) dev mask.bits)) b seat.old result seat.new c) }
     {
         let size = scan_size(self.shape(dev), mask);
         let work = RemaskWork::new(self.alloc, seat.member, mask, seat.capacity, size);
@@ -167,7 +165,7 @@ impl<B: Bank> Iio for HubLink<B> {
         requires owned { IsOfDevice (B.front self.old.bank) dev (seen_of seat) }
         ensures kept { B.front self.new.bank ≡ B.front self.old.bank }
         ensures bank { Moves (B.told self.old.bank) (B.told self.new.bank)
-            (λ b c. (o : Option WriterEnd) × Ran (LeaveMakes ⟦<Writer as Tail>⟧.lost seat.member.number) dev b o c) }
+            (λ b c. (o : Option WriterEnd) × Ran (LeaveMakes seat.member.number) dev b o c) }
     {
         self.end_seat(dev, seat);
     }
@@ -191,7 +189,7 @@ impl<B: Bank> Iio for HubLink<B> {
         requires some { 1 ≤ most }
         requires room { length out.old.items + most * size_of seat.old.reader ≤ vec_capacity out.old }
         ensures kept { B.front self.new.bank ≡ B.front self.old.bank }
-        ensures takes { TakesScans dev most None None (seen_of seat.old) (seen_of seat.new) out.old.items out.new.items result }
+        ensures takes { TakesScans dev most (reading None (seen_of seat.old) out.old.items) (reading None (seen_of seat.new) out.new.items) result }
         ensures most { length out.new.items ≤ length out.old.items + most * size_of seat.old.reader }
         ensures room { vec_capacity out.old ≤ vec_capacity out.new }
         ensures empty { result ≡ Took.Empty → SawOpen seat.new.reader }
@@ -207,7 +205,7 @@ impl<B: Bank> Iio for HubLink<B> {
         ensures kept { B.front self.new.bank ≡ B.front self.old.bank }
         ensures seat { seen_of seat.new ≡ seen_of seat.old }
         ensures bank { Moves (B.told self.old.bank) (B.told self.new.bank)
-            (λ b c. (o : Option ℕ) × Ran (Only (LostMakes ⟦<Writer as Tail>⟧.lost seat.old.member.number)) dev b o c × IfSome o (λ n. result.lost ≡ n)) }
+            (λ b c. (o : Option ℕ) × Ran (Only (LostMakes seat.old.member.number)) dev b o c × IfSome o (λ n. result.lost ≡ n)) }
     {
         let member = seat.member;
         let told = self.bank.device(
@@ -336,7 +334,7 @@ impl<B: Bank> HubLink<B> {
         requires { dev < length (B.front self.old.bank).devices }
         ensures front { B.front self.new.bank ≡ B.front self.old.bank }
         ensures bank { Moves (B.told self.old.bank) (B.told self.new.bank)
-            (λ b c. (o : Option WriterEnd) × Ran (LeaveMakes ⟦<Writer as Tail>⟧.lost seat.member.number) dev b o c) }
+            (λ b c. (o : Option WriterEnd) × Ran (LeaveMakes seat.member.number) dev b o c) }
         ensures ended { (rest : _) × Ends seat.reader.knows result rest }
     {
         let HubSeat {
@@ -368,9 +366,7 @@ impl<B: Bank> HubLink<B> {
         requires trigger { trigger < MAX_TRIGGERS }
         requires dev { dev < length (B.front self.old.bank).devices }
         ensures front { B.front self.new.bank ≡ B.front self.old.bank }
-        ensures bank { Moves (B.told self.old.bank) (B.told self.new.bank) (λ b c.
-            BankHandles ⟦<Writer as Tail>⟧.taken ⟦<Writer as Tail>⟧.lost ⟦<Writer as Tail>⟧.size ⟦<Writer as Tail>⟧.capacity ⟦<Writer as Tail>⟧.offer_gives
-            trigger dev b result c) }
+        ensures bank { Moves (B.told self.old.bank) (B.told self.new.bank) (λ b c. BankHandles trigger dev b result c) }
     {
         let due = self.bank.trigger(trigger, DueJob { dev })?;
         let handled = self.bank.device(
@@ -390,9 +386,7 @@ impl<B: Bank> HubLink<B> {
     pub fn sweep(&mut self, trigger: u32)
         requires { trigger < MAX_TRIGGERS }
         ensures front { B.front self.new.bank ≡ B.front self.old.bank }
-        ensures bank { Moves (B.told self.old.bank) (B.told self.new.bank) (λ b c.
-            Swept ⟦<Writer as Tail>⟧.taken ⟦<Writer as Tail>⟧.lost ⟦<Writer as Tail>⟧.size ⟦<Writer as Tail>⟧.capacity ⟦<Writer as Tail>⟧.offer_gives trigger
-            (length (B.front self.old.bank).devices) b c) }
+        ensures bank { Moves (B.told self.old.bank) (B.told self.new.bank) (λ b c. Swept trigger (length (B.front self.old.bank).devices) b c) }
     {
         for dev in 0..self.bank.front().count() {
             self.handle(trigger, dev);
@@ -404,7 +398,7 @@ impl<B: Bank> HubLink<B> {
     pub fn unplug(&mut self, dev: u32) -> bool
         requires { dev < length (B.front self.old.bank).devices }
         ensures front { B.front self.new.bank ≡ B.front self.old.bank }
-        ensures bank { Moves (B.told self.old.bank) (B.told self.new.bank) (λ b c. Ran (UnplugMakes ⟦<Writer as Tail>⟧.lost) dev b result c) }
+        ensures bank { Moves (B.told self.old.bank) (B.told self.new.bank) (λ b c. Ran UnplugMakes dev b result c) }
     {
         let was_plugged = self.bank.device(dev, UnplugJob);
         self.bank.chime(dev);

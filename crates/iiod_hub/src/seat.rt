@@ -2,7 +2,7 @@
 
 ghost use Rattle.std.specs.Prelude.{◌≡◌, ◌+◌, ◌-◌, ◌*◌, ◌^◌, ◌≤◌, ◌<◌, min, ◌++◌, ◌∷◌, [], true, false, length, option_map, vec_capacity, None, if◌then◌else◌};
 ghost use Rattle.iiod_reply.specs.Reply.{joined_scans};
-ghost use Rattle.iiod_commands.specs.Reading.{TakesScans};
+ghost use Rattle.iiod_commands.specs.Reading.{TakesScans, reading};
 ghost use Rattle.iiod_commands.specs.Seat.{after_nothing, after_take};
 ghost use Rattle.iiod_commands.specs.declared.iio.Took.{Took};
 ghost use Rattle.iiod_commands.specs.declared.iio.Took.TheVariants.{Empty, Gone};
@@ -87,7 +87,7 @@ impl HubSeat {
     pub fn take_scans(&mut self, _dev: u32, most: u32, out: &mut Vec<u8>) -> Took
         requires some { 1 ≤ most }
         requires room { length out.old.items + most * size_of self.old.reader ≤ vec_capacity out.old }
-        ensures takes { TakesScans _dev most None None (seen_of self.old) (seen_of self.new) out.old.items out.new.items result }
+        ensures takes { TakesScans _dev most (reading None (seen_of self.old) out.old.items) (reading None (seen_of self.new) out.new.items) result }
         ensures most { length out.new.items ≤ length out.old.items + most * size_of self.old.reader }
         ensures room { vec_capacity out.old ≤ vec_capacity out.new }
         ensures empty { result ≡ Took.Empty → SawOpen self.new.reader }

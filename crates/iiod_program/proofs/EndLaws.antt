@@ -1,17 +1,17 @@
 -- How a run ends if neither its source nor its sink failed, and that words make one request.
-use Rattle.std.proofs.Common.{◌≡◌, ℕ, List, [], ◌∷◌, Option, Some, None, IfSome, Ok, refl, sym, ap, ◌∙◌, subst, arith, get_or, length, map, String, string_bytes}
-use Rattle.std.specs.Prelude.{codes, decimal}
+use Rattle.std.proofs.Common.{◌≡◌, ℕ, List, [], Option, Some, None, IfSome, Ok, refl, sym, ap, ◌∙◌, subst, arith, get_or, length, String}
+use Rattle.std.specs.Prelude.{codes}
 use Rattle.std.proofs.lemmas.Fmt.{decimal_injective}
 use Rattle.iio_base.specs.Faults.{Rose}
 use Rattle.iio_sensor.specs.Driver.{Driver}
 use Rattle.iio_history.specs.Outcome.{Outcome, outcome_of}
 use Rattle.iio_script.specs.declared.status.Status.{Status}
 use Rattle.iio_script.specs.declared.status.Status.TheVariants.{Done, Refused, Usage, ReadFault, WriteFault, Memory, TooLong}
-use Rattle.iio_script.specs.Ends.{Writes}
+use Rattle.iio_script.specs.Ends.{Views, Writes}
 use Rattle.iio_gen.specs.Summary.{EndsGen}
 use Rattle.iiod_program.specs.Complete.{Completes}
 use Rattle.iiod_program.specs.declared.exit.End.TheVariants.{Run}
-use Rattle.iiod_program.specs.Does.{Does}
+use Rattle.iiod_program.specs.Does.{Does, Streams}
 use Rattle.iiod_program.specs.Played.{AreHandedIn, EndsPlayed}
 use Rattle.iiod_program.specs.Request.{Request, Play, Solo, Layout, Gen, Other, Asks}
 use Rattle.iiod_program.specs.Words.{IsPlay}
@@ -97,23 +97,18 @@ asks_one words Other (Layout device mask) one other = absurd (one.2 device mask 
 asks_one words Other (Gen n) one other = absurd (one.3 n other)
 asks_one words Other Other one other = refl
 
--- .. so what is done for the request that was read is done for every request of the words
-pub does_asked : {A S K : Type 0} (left : S → Option (List ℕ)) (reads : S → ℕ) (written : K → Option (List ℕ)) (writes : K → ℕ) (words : List (String A))
-    (read : Request)
-    (drivers : List Driver) (end : Status) (source source' : S) (sink sink' : K) → Asks words read
-    → Does left reads written writes drivers read end source source' sink sink'
-    → (asked : Request) → Asks words asked → Does left reads written writes drivers asked end source source' sink sink'
-does_asked left reads written writes words read drivers end source source' sink sink' is does asked asks =
-    subst (λ (r : Request). Does left reads written writes drivers r end source source' sink sink') (asks_one words read asked is asks) does
+-- ... so what is done for the request that was read is done for every request of the words
+pub does_asked : {A S K : Type 0} (views : Views S K) (words : List (String A)) (read : Request) (drivers : List Driver) (end : Status) (a b : Streams S K)
+    → Asks words read → Does views drivers read end a b → (asked : Request) → Asks words asked → Does views drivers asked end a b
+does_asked views words read drivers end a b is does asked asks =
+    subst (λ (r : Request). Does views drivers r end a b) (asks_one words read asked is asks) does
 
 -- ---- of the word `play`
 
-pub played_text : {A S K : Type 0} (left : S → Option (List ℕ)) (reads : S → ℕ) (written : K → Option (List ℕ)) (writes : K → ℕ) (words : List (String A))
-    (drivers : List Driver)
-    (end : Status) (source source' : S) (sink sink' : K)
-    → ((asked : Request) → Asks words asked → Does left reads written writes drivers asked end source source' sink sink') → IsPlay words
-    → IfSome (left source) (λ xs. IfSome (written sink) (λ ys. Writes (outcome_of drivers xs) ys end (written sink')))
-played_text left reads written writes words drivers end source source' sink sink' does is = (does Play is).transcript
+pub played_text : {A S K : Type 0} (views : Views S K) (words : List (String A)) (drivers : List Driver) (end : Status) (a b : Streams S K)
+    → ((asked : Request) → Asks words asked → Does views drivers asked end a b) → IsPlay words
+    → IfSome (views.left a.source) (λ xs. IfSome (views.written a.sink) (λ ys. Writes (outcome_of drivers xs) ys end (views.written b.sink)))
+played_text views words drivers end a b does is = (does Play is).transcript
 
 pub ends_played : (drivers : List Driver) (left written : Option (List ℕ)) (status : Status) (after : Option (List ℕ)) → AreHandedIn drivers
     → IfSome left (λ xs. IfSome written (λ ys. Writes (outcome_of drivers xs) ys status after))

@@ -2,8 +2,8 @@
 
 ghost use Rattle.std.specs.Prelude.{map};
 ghost use Rattle.iio_device.specs.declared.plug.Plug.TheVariants.{Given};
-ghost use Rattle.iio_script.specs.Ends.{ShowsFaults};
-ghost use Rattle.iiod_program.specs.Does.{Does};
+ghost use Rattle.iio_script.specs.Ends.{ShowsFaults, views_of};
+ghost use Rattle.iiod_program.specs.Does.{Does, streams_of};
 ghost use Rattle.iiod_program.specs.Request.{Asks, Request as Asked};
 
 use crate::layout::layout;
@@ -32,9 +32,9 @@ pub fn run<S: Source, K: Sink>(
     input: &mut S,
     output: &mut K,
 ) -> Status
-    ensures does { (asked : Asked) → Asks words.now asked → Does S.left S.faults K.written K.faults
-        (map (λ d. ⟦<Plug as Sensor>⟧.driver (Given d)) drivers.items) asked result input.old input.new output.old output.new }
-    ensures faults { ShowsFaults S.left S.faults K.written K.faults result input.old input.new output.old output.new }
+    ensures does { (asked : Asked) → Asks words.now asked → Does (views_of S.left S.faults K.written K.faults)
+        (map (λ d. ⟦<Plug as Sensor>⟧.driver (Given d)) drivers.items) asked result (streams_of input.old output.old) (streams_of input.new output.new) }
+    ensures faults { ShowsFaults (views_of S.left S.faults K.written K.faults) result input.old input.new output.old output.new }
 {
     solo_law();
     match request_of(words) {

@@ -2,7 +2,7 @@
 
 ghost use Rattle.std.specs.Prelude.{◌≡◌, ◌≤◌, ℕ, List, None, IfOk, IfSome, IfNone};
 ghost use Rattle.iio_base.specs.Faults.{Rose};
-ghost use Rattle.iio_script.specs.Ends.{HasStatus, Finishes, ShowsFaults, Writes};
+ghost use Rattle.iio_script.specs.Ends.{HasStatus, Finishes, ShowsFaults, Writes, views_of};
 ghost use Rattle.iio_script.specs.LineReader.{TakesBlocks};
 ghost use Rattle.iio_script.specs.Plays.{Prints, WritesText};
 ghost use Rattle.iiod_program.specs.Layout.{TakesForLine, laid_out, layout_of};
@@ -75,7 +75,7 @@ pub fn layout<S: Source, K: Sink>(
     ensures words { result ≡ Status.Usage → ⊥ }
     ensures near { IfSome (S.left input.old) (λ left. TakesForLine result left (S.left input.new)) }
     ensures nothing { result ≡ Status.ReadFault → output.new ≡ output.old }
-    ensures faults { ShowsFaults S.left S.faults K.written K.faults result input.old input.new output.old output.new }
+    ensures faults { ShowsFaults (views_of S.left S.faults K.written K.faults) result input.old input.new output.old output.new }
 {
     match read_description(alloc, drivers, input, output) {
         Ok(desc) => lay_device(alloc, &desc, device, mask, output),

@@ -10,7 +10,7 @@ use Rattle.iio_history.specs.Script.{Ending, Finished}
 use Rattle.iio_history.specs.Script as ending
 use Rattle.iio_script.specs.declared.status.Status.{Status}
 use Rattle.iio_script.specs.declared.status.Status.TheVariants as run
-use Rattle.iio_script.specs.Ends.{HasStatus, ShowsFaults, Writes, status_of}
+use Rattle.iio_script.specs.Ends.{HasStatus, ShowsFaults, Views, Writes, status_of}
 use Rattle.iio_script.specs.Plays.{TakesFor}
 use Rattle.iio_script.proofs.EndLaws.{silent_first}
 use Rattle.iiod_serve.specs.declared.serve_status.ServeStatus.{ServeStatus}
@@ -80,17 +80,17 @@ pub stops_door : {D : Type 0} (left : D → Option ℕ) (faults : D → ℕ) (st
 stops_door left faults st r door e stop = subst (λ (x : ServeStatus). ShowsDoor left faults x door door) (sym e) (unasked left faults st door stop)
 
 -- words that aren't a command leave the source alone
-pub usage_faults : {S K : Type 0} (left : S → Option (List ℕ)) (reads : S → ℕ) (written : K → Option (List ℕ)) (writes : K → ℕ) (st : Status) (r : ServeStatus)
-    (source : S) (sink sink' : K) → r ≡ of_run st → IsUsage st
-    → (st ≡ run.WriteFault → Rose (writes sink) (writes sink')) → writes sink ≤ writes sink' → IfNone (written sink) (written sink' ≡ None)
-    → ShowsFaults left reads written writes (as_run r) source source sink sink'
-usage_faults left reads written writes st r source sink sink' e usage write counted silent =
-    as_ended (λ (x : Status). ShowsFaults left reads written writes x source source sink sink') st r e (record {
+pub usage_faults : {S K : Type 0} (views : Views S K) (st : Status) (r : ServeStatus) (source : S) (sink sink' : K) → r ≡ of_run st → IsUsage st
+    → (st ≡ run.WriteFault → Rose (views.writes sink) (views.writes sink')) → views.writes sink ≤ views.writes sink'
+    → IfNone (views.written sink) (views.written sink' ≡ None)
+    → ShowsFaults views (as_run r) source source sink sink'
+usage_faults views st r source sink sink' e usage write counted silent =
+    as_ended (λ (x : Status). ShowsFaults views x source source sink sink') st r e (record {
       read_fault = λ is. absurd (other run.ReadFault usage is (λ a. cc) (λ b. cc));
       write_fault = write;
       memory = λ is. absurd (other run.Memory usage is (λ a. cc) (λ b. cc));
       counted = (omega arith, counted);
-      silent = (silent_first (left source), silent);
+      silent = (silent_first (views.left source), silent);
     })
   where
     other : (x : Status) → IsUsage st → st ≡ x → (run.Usage ≡ x → ⊥) → (run.WriteFault ≡ x → ⊥) → ⊥

@@ -4,7 +4,7 @@ ghost use Rattle.std.specs.Prelude.{◌≡◌, ◌≤◌, ℕ, List, None, Err, 
 ghost use Rattle.iio_base.specs.Faults.{Rose};
 ghost use Rattle.iio_desc.specs.WellFormed.{IsWellFormed};
 ghost use Rattle.iio_history.specs.Outcome.{head_of};
-ghost use Rattle.iio_script.specs.Ends.{HasStatus, ShowsFaults, Writes};
+ghost use Rattle.iio_script.specs.Ends.{HasStatus, ShowsFaults, Writes, views_of};
 ghost use Rattle.iio_script.specs.LineReader.{TakesBlocks};
 ghost use Rattle.iio_script.specs.Plays.{Prints, TakesFor, WritesText};
 ghost use Rattle.iio_script.specs.Told.{IsSoundOpening, told};
@@ -57,7 +57,7 @@ pub fn read_description<S: Source, K: Sink>(
     ensures taken { IfSome (S.left input.old) (λ left. TakesBlocks left (S.left input.new)) }
     ensures near { IfSome (S.left input.old) (λ left. TakesFor (ended result) left (S.left input.new)) }
     ensures nothing { ended result ≡ Status.ReadFault → output.new ≡ output.old }
-    ensures faults { ShowsFaults S.left S.faults K.written K.faults (ended result) input.old input.new output.old output.new }
+    ensures faults { ShowsFaults (views_of S.left S.faults K.written K.faults) (ended result) input.old input.new output.old output.new }
 {
     let Ok(mut lines) = LineReader::new(alloc) else {
         return Err(Status::Memory);

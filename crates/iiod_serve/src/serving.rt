@@ -1,7 +1,7 @@
 //! What the program does for the words `serve ADDRESS PERIOD`.
 
 ghost use Rattle.std.specs.Prelude.{◌≡◌, ℕ, List, length, IfSome};
-ghost use Rattle.iio_script.specs.Ends.{HasStatus, ShowsFaults};
+ghost use Rattle.iio_script.specs.Ends.{HasStatus, ShowsFaults, views_of};
 ghost use Rattle.iio_script.specs.LineReader.{TakesBlocks};
 ghost use Rattle.iio_script.specs.Plays.{TakesFor};
 ghost use Rattle.iiod_serve.specs.Reading.{served_of};
@@ -41,7 +41,7 @@ fn serve_input<R: Threads + Wait + Sync, S: Source, K: Sink, D: Listen, G: Gate 
     ensures near { IfSome (S.left input.old) (λ left. TakesFor (as_run result) left (S.left input.new)) }
     ensures nothing { result ≡ ServeStatus.ReadFault → output.new ≡ output.old }
     ensures words { result ≡ ServeStatus.Usage → ⊥ }
-    ensures faults { ShowsFaults S.left S.faults K.written K.faults (as_run result) input.old input.new output.old output.new }
+    ensures faults { ShowsFaults (views_of S.left S.faults K.written K.faults) (as_run result) input.old input.new output.old output.new }
     ensures door { ShowsDoor D.left D.faults result door.old door.new }
 {
     match read_description(alloc, count, input, output) {
@@ -89,7 +89,7 @@ pub fn serve<R: Threads + Wait + Sync, S: Source, K: Sink, D: Listen, G: Gate + 
     ensures usage_line { IsNoServe words.now → IfSome (K.written output.old) (λ written. PrintsUsage written (as_run result) (K.written output.new)) }
     ensures unread { IsNoServe words.now → input.new ≡ input.old }
     ensures unopened { IsNoServe words.now → door.new ≡ door.old }
-    ensures faults { ShowsFaults S.left S.faults K.written K.faults (as_run result) input.old input.new output.old output.new }
+    ensures faults { ShowsFaults (views_of S.left S.faults K.written K.faults) (as_run result) input.old input.new output.old output.new }
     ensures door { ShowsDoor D.left D.faults result door.old door.new }
 {
     let Some((address, period)) = serve_words(words) else {

@@ -1,5 +1,5 @@
 -- The scans that the seats gave are those that were answered.
-use Rattle.std.proofs.Common.{◌≡◌, ℕ, suc, zero, ◌+◌, ◌==◌, nat_lt, Bool, true, false, List, [], ◌∷◌, ◌++◌, length, length-append, refl, sym, ap, ◌∙◌, Option, Some, None, option_map, inl, inr, Ok, arith, ℤ}
+use Rattle.std.proofs.Common.{◌≡◌, ℕ, suc, zero, ◌==◌, nat_lt, Bool, true, false, List, [], ◌∷◌, ◌++◌, length, length-append, refl, sym, ap, ◌∙◌, Option, Some, None, option_map, inl, inr, Ok, arith, ℤ}
 use Rattle.std.proofs.lemmas.Bool.{eqb-true}
 use Rattle.std.proofs.lemmas.List.{length-map}
 use Rattle.std.specs.Prelude.{◌⊎◌, MatchBool, if◌then◌else◌, remove, slice_get, slice_set}
@@ -13,12 +13,12 @@ use Rattle.iiod_reply.specs.Reply.{Reply, Number, Refusal, Block, NoMemory}
 use Rattle.iiod_commands.specs.declared.client.Client.{Client}
 use Rattle.iiod_commands.specs.declared.manner.Manner.{Manner}
 use Rattle.iiod_commands.specs.Acts.{zero_reply}
-use Rattle.iiod_commands.specs.Client.{SeatState, ClientRecord, IsClient, seat_state_of, seat_state_remasked, seats_of, trace_of, traces_of, has_seat, place_of}
+use Rattle.iiod_commands.specs.Client.{SeatState, ClientRecord, IsClient, State, seat_state_of, seat_state_remasked, seats_of, trace_of, traces_of, has_seat, place_of}
 use Rattle.iio_core.specs.Front.{Front, find_device, kind_at, size_at}
 use Rattle.iiod_session.specs.Given.{GivenIs, given_after, given_by, given_in, is_named, trace_at}
 use Rattle.iiod_commands.specs.Moves.{Moves, ReadMoves, ReadsAs, ReadsAt, ReadsBy, ReadsFrom}
 use Rattle.iiod_commands.specs.Reading.{Reads}
-use Rattle.iiod_session.specs.Run.{State, Run}
+use Rattle.iiod_session.specs.Run.{Run}
 use Rattle.iiod_commands.specs.Seat.{SeatRecord, Trace, after_nothing, after_scans, first_trace}
 use Rattle.iiod_commands.proofs.ApartLaws.{AreApart, IsFirst, apart_by, apart_kept, apart_last, apart_under, none_has, place_first}
 
@@ -341,30 +341,33 @@ read_from front device asked (Some k) reply seats traces traces' named r a = by 
 seats_in : (client client' : ClientRecord) → client' ≡ client → client'.seats ≡ client.seats
 seats_in client client' e = ap (λ (d : ClientRecord). d.seats) e
 
-moved : (front : Front) (client client' : ClientRecord) (traces traces' : List (Option Trace)) (item : Item) (reply : Reply) → AreSeated client.seats traces
-    → Moves front client traces item reply client' traces' → Keeps front item reply client.seats traces client'.seats traces'
-moved front client client' traces traces' (Said (Ok (Open device samples text cyclic))) (Number n) a m =
-    rw (ap (λ (d : ClientRecord). d.seats) m.added, m.told) (opened front device text samples cyclic n m.s m.t client.seats traces m.named m.free m.fresh a)
-moved front client client' traces traces' (Said (Ok (Close device))) (Number n) a m =
-    rw (ap (λ (d : ClientRecord). d.seats) m.gone, m.told) (closed front device n m.dev m.i client.seats traces m.at a)
-moved front client client' traces traces' (Said (Ok (Remask device text))) (Number n) a m =
-    rw (ap (λ (d : ClientRecord). d.seats) m.2.under, m.2.told)
-    (remasked front device text n m.2.i m.2.s (seat_state_remasked m.2.mask m.2.waiting m.2.s) m.2.t client.seats traces
-    (m.1 ∙ ap (λ (k : ℕ). Some k) (sym m.2.its))
-    (ap (λ (k : ℕ). place_of k client.seats) m.2.its ∙ m.2.at) m.2.here refl m.2.fresh a)
-moved front client client' traces traces' (Said (Ok (ReadBuf device asked))) NoMemory a m =
-    same front (Said (Ok (ReadBuf device asked))) NoMemory _ _ _ _ (seats_in client client' m.0) m.1 (λ dev g. refl) a
-moved front client client' traces traces' (Said (Ok (ReadBuf device asked))) reply a m =
-    rw (seats_in client client' m.0) (read_from front device asked (find_device front device) reply client.seats traces traces' refl m.1 a)
-moved front client client' traces traces' (Said (Ok (SetBuffers device n))) (Number z) a m =
-    same front (Said (Ok (SetBuffers device n))) (Number z) _ _ _ _ (ap (λ (d : ClientRecord). d.seats) m.made) m.told (λ dev g. refl) a
-moved front client client' traces traces' (Said (Ok (EvOpen device))) (Number z) a m =
-    same front (Said (Ok (EvOpen device))) (Number z) _ _ _ _ (ap (λ (d : ClientRecord). d.seats) m.made) m.told (λ dev g. refl) a
-moved front client client' traces traces' (Said (Ok (EvClose device))) (Number z) a m =
-    same front (Said (Ok (EvClose device))) (Number z) _ _ _ _ (ap (λ (d : ClientRecord). d.seats) m.made) m.told (λ dev g. refl) a
-moved front client client' traces traces' (End error) reply a m =
+moved : (front : Front) (a b : State) (item : Item) (reply : Reply) → AreSeated a.client.seats a.traces → Moves front a item reply b
+    → Keeps front item reply a.client.seats a.traces b.client.seats b.traces
+moved front a b (Said (Ok (Open device samples text cyclic))) (Number n) s m =
+    let joined = m.moves.2 in
+    rw (ap (λ (d : ClientRecord). d.seats) joined.added, joined.told)
+    (opened front device text samples cyclic n _ joined.t a.client.seats a.traces m.named joined.free joined.fresh s)
+moved front a b (Said (Ok (Close device))) (Number n) s m =
+    rw (ap (λ (d : ClientRecord). d.seats) m.moves.gone, m.moves.told) (closed front device n m.dev m.moves.i a.client.seats a.traces m.moves.at s)
+moved front a b (Said (Ok (Remask device text))) (Number n) s m =
+    let under = m.moves in
+    rw (ap (λ (d : ClientRecord). d.seats) under.under, under.told)
+    (remasked front device text n under.i under.s (seat_state_remasked under.mask under.waiting under.s) under.t a.client.seats a.traces
+    (m.named ∙ ap (λ (k : ℕ). Some k) (sym under.its))
+    (ap (λ (k : ℕ). place_of k a.client.seats) under.its ∙ under.at) under.here refl under.fresh s)
+moved front a b (Said (Ok (ReadBuf device asked))) NoMemory s m =
+    same front (Said (Ok (ReadBuf device asked))) NoMemory _ _ _ _ (seats_in a.client b.client m.0) m.1 (λ dev g. refl) s
+moved front a b (Said (Ok (ReadBuf device asked))) reply s m =
+    rw (seats_in a.client b.client m.0) (read_from front device asked (find_device front device) reply a.client.seats a.traces b.traces refl m.1 s)
+moved front a b (Said (Ok (SetBuffers device n))) (Number z) s m =
+    same front (Said (Ok (SetBuffers device n))) (Number z) _ _ _ _ (ap (λ (d : ClientRecord). d.seats) m.moves.0) m.moves.1 (λ dev g. refl) s
+moved front a b (Said (Ok (EvOpen device))) (Number z) s m =
+    same front (Said (Ok (EvOpen device))) (Number z) _ _ _ _ (ap (λ (d : ClientRecord). d.seats) m.moves.0) m.moves.1 (λ dev g. refl) s
+moved front a b (Said (Ok (EvClose device))) (Number z) s m =
+    same front (Said (Ok (EvClose device))) (Number z) _ _ _ _ (ap (λ (d : ClientRecord). d.seats) m.moves.0) m.moves.1 (λ dev g. refl) s
+moved front a b (End error) reply s m =
     rw (ap (λ (d : ClientRecord). d.seats) m.1, m.2) (record { apart = tt; told = refl }, λ given is dev x e. let n : None ≡ Some x = e in cc)
-moved front client client' traces traces' item reply a m = same front item reply _ _ _ _ (seats_in client client' m.0) m.1 (λ dev g. refl) a
+moved front a b item reply s m = same front item reply _ _ _ _ (seats_in a.client b.client m.0) m.1 (λ dev g. refl) s
 
 -- ---- a whole feed
 
@@ -377,7 +380,7 @@ run_gives manner front a b [] [] r s = rw r (s, λ given is dev x e. is dev x e)
 run_gives manner front a b [] (y ∷ ys) r s = absurd r
 run_gives manner front a b (x ∷ xs) [] r s = absurd r
 run_gives manner front a b (x ∷ xs) (y ∷ ys) r s =
-    let one = moved front a.client r.0.client a.traces r.0.traces x y s r.1.served.moves in
+    let one = moved front a r.0 x y s r.1.served.moves in
     let more = run_gives manner front r.0 b xs ys r.2 one.0 in
     (more.0, λ given is. more.1 (λ dev. given_by front dev x y (given dev)) (one.1 given is))
 
@@ -386,7 +389,7 @@ first_told seats traces dev t e = ap (λ (x : Option Trace). given_in x) (sym e)
 
 pub gives : (manner : Manner) (front : Front) (a b : State) (items : List Item) (replies : List Reply) → Run manner front a items replies b
     → AreSeated a.client.seats a.traces
-    → GivenIs front items replies a.client.seats a.traces b.client.seats b.traces
+    → GivenIs front items replies a b
 gives manner front a b items replies r s =
     (run_gives manner front a b items replies r s).1 (λ dev. given_in (trace_at dev a.client.seats a.traces)) (first_told a.client.seats a.traces)
 
@@ -400,12 +403,8 @@ none_gives front dev item e g = by item
     by (Said (Ok (Remask device text))) = refl
     by item = refl
 
-pub waiting_gives : (front : Front) (items : List Item) (replies : List Reply) (seats : List SeatState) (traces : List (Option Trace)) (a b : State)
-    (item : Item)
-    (e : Errno)
-    → Moves front a.client a.traces item (Refusal e) b.client b.traces → AreSeated a.client.seats a.traces
-    → GivenIs front items replies seats traces a.client.seats a.traces → GivenIs front items replies seats traces b.client.seats b.traces
-waiting_gives front items replies seats traces a b item e m s g dev x at =
-    (moved front a.client b.client a.traces b.traces item (Refusal e) s m).1 (λ k. given_after front k items replies (given_in (trace_at k seats traces))) g dev
-    x at
+pub waiting_gives : (front : Front) (items : List Item) (replies : List Reply) (o a b : State) (item : Item) (e : Errno)
+    → Moves front a item (Refusal e) b → AreSeated a.client.seats a.traces → GivenIs front items replies o a → GivenIs front items replies o b
+waiting_gives front items replies o a b item e m s g dev x at =
+    (moved front a b item (Refusal e) s m).1 (λ k. given_after front k items replies (given_in (trace_at k o.client.seats o.traces))) g dev x at
     ∙ none_gives front dev item e _

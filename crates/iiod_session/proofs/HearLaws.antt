@@ -28,13 +28,13 @@ use Rattle.iiod_commands.specs.declared.manner.Manner.TheVariants.{Script, Serve
 use Rattle.iiod_commands.specs.declared.manner.Progress.{Progress}
 use Rattle.iiod_commands.specs.declared.manner.Progress.TheVariants.{Done, Waits as PerformedWaits}
 use Rattle.iiod_commands.specs.Acts.{Acts, act, end_reply, left_client, left_machine}
-use Rattle.iiod_commands.specs.Client.{ClientRecord, traces_of}
+use Rattle.iiod_commands.specs.Client.{ClientRecord, traces_of, State, answering}
 use Rattle.iio_core.specs.Front.{Front}
 use Rattle.iio_core.specs.Machine.{Machine}
 use Rattle.iiod_commands.specs.Moves.{AnswersAlone, AnswersAs}
 use Rattle.iiod_session.specs.PendingWrite.{PendingRecord, pending_of}
 use Rattle.iiod_commands.specs.Performs.{IsAllowed, IsAtOnce, IsReadOf, Performs}
-use Rattle.iiod_session.specs.Run.{State, CarriesBy, FedBy}
+use Rattle.iiod_session.specs.Run.{CarriesBy, FedBy, feeding}
 use Rattle.iiod_commands.specs.Seat.{SeatRecord}
 use Rattle.iiod_session.specs.Session.{IsKept, IsPlain, piece_by, stream_by, unread_of}
 use Rattle.iiod_session.specs.Watch.{Hears, Tells, is_waiting, waits_in}
@@ -75,40 +75,34 @@ none_seen seen held e = ap (λ hs. traces_of seen hs) e
 
 module _ {W : Type 0} {makes : Front → Option Machine → ℕ → Item → W → W → Type 0} where
   ends : (manner : Manner) (front : Front) (a b : State) (w v : W) (error : Option Errno) (before after : List ℕ)
-      → makes front a.told a.client.who (End error) w v
-      → after ≡ before ++ text_of (end_reply error)
+      → makes front a.told a.client.who (End error) w v → after ≡ before ++ text_of (end_reply error)
       → IfSome a.told (λ m. b.told ≡ Some (left_machine front m a.client)) → b.client ≡ left_client a.client → b.traces ≡ []
-      → Hears makes manner front (scene a w false) (ended_by error) before after (scene b v false) (no_item AtEnd) Ended
+      → Hears makes manner front (feeding (scene a w false) (ended_by error) before) (feeding (scene b v false) (no_item AtEnd) after) Ended
   ends manner front a b w v error before after tells text t d none =
-      feeds_of manner front (scene a w false) (scene b v false) (scene b v false) (ended_by error) (no_item AtEnd) before after Ended
-      (fed_one (scene a w false) (scene b v false) (ended_by error) (no_item AtEnd) before after (End error) (end_reply error) refl refl text
+      feeds_of manner front _ (scene b v false) _ Ended
+      (fed_one _ _ (End error) (end_reply error) refl refl text
       (record {
         tells = tells;
-        answered =
-            record {
-              allowed = end_allowed manner error;
-              answer = tt;
-              served =
-                  record {
-                    alone = end_alone front a.client error;
-                    formed = end_formed front error;
-                    exact = end_acts front a b error t d;
-                    moves =
-                        (refl, d, none);
-                  };
-            };
+        answered = record {
+          allowed = end_allowed manner error;
+          answer = tt;
+          served = record {
+            alone = end_alone front a.client error;
+            formed = end_formed front error;
+            exact = end_acts front a b error t d;
+            moves = (refl, d, none);
+          };
+        };
         next = refl;
       }))
       (refl, refl)
 
   -- the end of a connection, as `end` makes it
   pub end_feeds : {S : Type 0} (seen : S → SeatRecord) (manner : Manner) (front : Front) (a b : State) (w v : W) (held : List (OpenSeat S))
-      (error : Option Errno)
-      (before after : List ℕ)
-      → makes front a.told a.client.who (End error) w v
-      → after ≡ before ++ text_of (end_reply error)
+      (error : Option Errno) (before after : List ℕ)
+      → makes front a.told a.client.who (End error) w v → after ≡ before ++ text_of (end_reply error)
       → IfSome a.told (λ m. b.told ≡ Some (left_machine front m a.client)) → b.client ≡ left_client a.client → b.traces ≡ traces_of seen held → held ≡ []
-      → Hears makes manner front (scene a w false) (ended_by error) before after (scene b v false) (no_item AtEnd) Ended
+      → Hears makes manner front (feeding (scene a w false) (ended_by error) before) (feeding (scene b v false) (no_item AtEnd) after) Ended
   end_feeds seen manner front a b w v held error before after tells text t d traces none =
       ends manner front a b w v error before after tells text t d (traces ∙ none_seen seen held none)
 
@@ -116,8 +110,9 @@ module _ {W : Type 0} {makes : Front → Option Machine → ℕ → Item → W �
 pub ended_line : {W : Type 0} (makes : Front → Option Machine → ℕ → Item → W → W → Type 0) (manner : Manner) (front : Front) (a b : State) (w v : W)
     (error : Option Errno) (all : Scanned) (before after : List ℕ) (lines : LinesRecord) (pending : PendingRecord) (r : Result Going Mem)
     → all ≡ ended_by error → IfOk r (λ going. going ≡ Ended)
-    → IfOk r (λ going. Hears makes manner front (scene a w false) (ended_by error) before after (scene b v false) (no_item AtEnd) going)
-    → IfOk r (λ going. Hears makes manner front (scene a w false) all before after (scene b v (is_waiting going)) (stream_by going lines pending) going)
+    → IfOk r (λ going. Hears makes manner front (feeding (scene a w false) (ended_by error) before) (feeding (scene b v false) (no_item AtEnd) after) going)
+    → IfOk r (λ going. Hears makes manner front (feeding (scene a w false) all before)
+    (feeding (scene b v (is_waiting going)) (stream_by going lines pending) after) going)
 ended_line makes manner front a b w v error all before after lines pending (Ok Ended) is e f = rw is f
 ended_line makes manner front a b w v error all before after lines pending (Ok On) is e f = cc
 ended_line makes manner front a b w v error all before after lines pending (Ok (Waits dev)) is e f = cc
@@ -141,11 +136,10 @@ payload_stream line of count kept e within is = e ∙ rw ((let b : nat_lt MAX_PA
 pub payload_feeds : {W : Type 0} {makes : Front → Option Machine → ℕ → Item → W → W → Type 0} (manner : Manner) (front : Front) (a : State) (w : W)
     (line : List ℕ) (of : Pending) (count : ℕ) (before : List ℕ) (lines : LinesRecord) (kept : PendingRecord)
     → after_line line ≡ payload_begun of count → count ≤ MAX_PAYLOAD → lines ≡ record (after_piece line) { wanted = Some count } → pending_of kept ≡ of
-    → Hears makes manner front (scene a w false) (after_line line) before before (scene a w false) (stream_by On lines kept) On
+    → Hears makes manner front (feeding (scene a w false) (after_line line) before) (feeding (scene a w false) (stream_by On lines kept) before) On
 payload_feeds manner front a w line of count before lines kept e within is same =
     let here : after_line line ≡ stream_by On lines kept = payload_stream line of count kept e within same ∙ rw is refl in
-    goes_on manner front (scene a w false) (scene a w false) (after_line line) (stream_by On lines kept) before before (scanner_goes_on lines (pending_of kept))
-    (rw here (fed_none (scene a w false) (stream_by On lines kept) before))
+    goes_on manner front _ _ (scanner_goes_on lines (pending_of kept)) (rw here (fed_none _))
 
 plain_line : (said : Result Command Refused) → IsPlain said → after_said said ≡ one_item (Said said)
 plain_line (Ok Exit) p = absurd p
@@ -161,28 +155,26 @@ pub plain_feeds : {W : Type 0} {makes : Front → Option Machine → ℕ → Ite
     (told : Bool) (line : List ℕ) (kept : PendingRecord) (said : Result Command Refused) (lines : LinesRecord) (before after : List ℕ) (p : Progress)
     → command_of line ≡ said → IsPlain said → lines ≡ after_piece line
     → Tells makes manner front (scene a w told) (Said said) v
-    → Performs manner front a.told b.told a.client a.traces (Said said) b.client b.traces before after p
-    → Hears makes manner front (scene a w told) (after_line line) before after (scene b v (is_waiting (going_of p))) (stream_by (going_of p) lines kept)
+    → Performs manner front (answering a before) (Said said) (answering b after) p
+    → Hears makes manner front (feeding (scene a w told) (after_line line) before)
+    (feeding (scene b v (is_waiting (going_of p))) (stream_by (going_of p) lines kept) after)
     (going_of p)
 plain_feeds manner front a b w v told line kept said lines before after Done e plain is tells x =
     let all : after_line line ≡ one_item (Said said) = ap (λ z. after_said z) e ∙ plain_line said plain in
     let left : stream_by On lines kept ≡ no_item (InLine []) = rw is refl in
-    goes_on manner front (scene a w told) (scene b v false) (after_line line) (stream_by On lines kept) before after (scanner_goes_on lines (pending_of kept))
-    (rw (all, left) (fed_one (scene a w told) (scene b v false) (one_item (Said said)) (no_item (InLine [])) before after (Said said) x.0 refl refl x.1
+    goes_on manner front _ _ (scanner_goes_on lines (pending_of kept))
+    (rw (all, left) (fed_one _ _ (Said said) x.0 refl refl x.1
     (record { tells = tells; answered = record { allowed = x.2; answer = x.3; served = x.4 }; next = refl })))
 plain_feeds manner front a b w v told line kept said lines before after (PerformedWaits dev) e plain is tells x =
     let all : after_line line ≡ one_item (Said said) = ap (λ z. after_said z) e ∙ plain_line said plain in
     let left : stream_by (Waits dev) lines kept ≡ one_item (Said said) = rw is all in
-    feeds_of manner front (scene a w told) (scene a w told) (scene b v true) (after_line line) (stream_by (Waits dev) lines kept) before after (Waits dev)
-    (rw (all, left, x.0) (fed_none (scene a w told) (one_item (Said said)) before))
-    (record {
+    feeds_of manner front _ (scene a w told) _ (Waits dev) (rw (all, left, x.0) (fed_none _)) (record {
       server = x.1;
       item = Said said;
       more = [];
       first = ap (λ (z : Scanned). z.items) left;
       read = x.2;
-      served =
-          record { tells = tells; served = x.3; put = refl };
+      served = record { tells = tells; served = x.3; put = refl };
     })
 
 -- a line that is answered at once
@@ -200,8 +192,8 @@ pub at_once_feeds : {W : Type 0} {makes : Front → Option Machine → ℕ → I
     (kept : PendingRecord) (said : Result Command Refused) (lines : LinesRecord) (before after : List ℕ) (p : Progress)
     → lines ≡ after_piece lines.piece → command_of lines.piece ≡ said → IsAtOnce said
     → makes front a.told a.client.who (Said said) w v
-    → Performs manner front a.told b.told a.client a.traces (Said said) b.client b.traces before after p
-    → Hears makes manner front (scene a w false) (after_line lines.piece) before after (scene b v false) (stream_by On lines kept) On
+    → Performs manner front (answering a before) (Said said) (answering b after) p
+    → Hears makes manner front (feeding (scene a w false) (after_line lines.piece) before) (feeding (scene b v false) (stream_by On lines kept) after) On
 at_once_feeds manner front a b w v kept said lines before after Done is e once tells x =
     plain_feeds manner front a b w v false lines.piece kept said lines before after Done e (once_plain said once) is tells x
 at_once_feeds manner front a b w v kept said lines before after (PerformedWaits dev) is e once tells x = absurd (no_wait front dev said once x.2)
@@ -216,14 +208,13 @@ pub written_feeds : {W : Type 0} {makes : Front → Option Machine → ℕ → I
     (lines : LinesRecord) (kept : PendingRecord) (of : Pending) (payload before after : List ℕ) (p : Progress)
     → lines ≡ after_piece lines.piece
     → makes front a.told a.client.who (with_payload of payload) w v
-    → Performs manner front a.told b.told a.client a.traces (with_payload of payload) b.client b.traces before after p
-    → Hears makes manner front (scene a w false) (one_item (with_payload of payload)) before after (scene b v false) (stream_by On lines kept) On
+    → Performs manner front (answering a before) (with_payload of payload) (answering b after) p
+    → Hears makes manner front (feeding (scene a w false) (one_item (with_payload of payload)) before)
+    (feeding (scene b v false) (stream_by On lines kept) after) On
 written_feeds manner front a b w v lines kept of payload before after Done is tells x =
     let left : stream_by On lines kept ≡ no_item (InLine []) = ap (λ (z : LinesRecord). stream_by On z kept) is in
-    goes_on manner front (scene a w false) (scene b v false) (one_item (with_payload of payload)) (stream_by On lines kept) before after
-    (scanner_goes_on lines (pending_of kept))
-    (rw left (fed_one (scene a w false) (scene b v false) (one_item (with_payload of payload)) (no_item (InLine [])) before after (with_payload of payload) x.0
-    refl refl x.1
+    goes_on manner front _ _ (scanner_goes_on lines (pending_of kept))
+    (rw left (fed_one _ _ (with_payload of payload) x.0 refl refl x.1
     (record { tells = tells; answered = record { allowed = x.2; answer = x.3; served = x.4 }; next = refl })))
 written_feeds manner front a b w v lines kept of payload before after (PerformedWaits dev) is tells x = absurd (no_read front dev of payload x.2)
 
@@ -231,8 +222,9 @@ pub said_feeds : {W : Type 0} {makes : Front → Option Machine → ℕ → Item
     (told : Bool) (kept : PendingRecord) (said : Result Command Refused) (lines : LinesRecord) (before after : List ℕ) (p : Progress)
     → lines ≡ after_piece lines.piece → command_of lines.piece ≡ said → IsPlain said
     → Tells makes manner front (scene a w told) (Said said) v
-    → Performs manner front a.told b.told a.client a.traces (Said said) b.client b.traces before after p
-    → Hears makes manner front (scene a w told) (after_line lines.piece) before after (scene b v (is_waiting (going_of p))) (stream_by (going_of p) lines kept)
+    → Performs manner front (answering a before) (Said said) (answering b after) p
+    → Hears makes manner front (feeding (scene a w told) (after_line lines.piece) before)
+    (feeding (scene b v (is_waiting (going_of p))) (stream_by (going_of p) lines kept) after)
     (going_of p)
 said_feeds manner front a b w v told kept said lines before after p is e plain tells x =
     plain_feeds manner front a b w v told lines.piece kept said lines before after p e plain is tells x
@@ -247,12 +239,12 @@ blank_line line none = ap command_of none
 pub more_feeds : {S : Type 0} {Answered : S → Item → Reply → S → Type 0} {Unanswered : S → Item → S → Type 0} (manner : Manner) (front : Front) (a b : S)
     (all : Scanned) (before after : List ℕ) (old new : LinesRecord) (pending : Pending) (rest whole tail : List ℕ)
     → scan_on (scanner_at old pending) rest ≡ scanner_at new pending → rest ≡ whole → tail ≡ []
-    → FedBy Answered a all before after b (scan_on (scanner_at old pending) whole)
-    → CarriesBy Answered Unanswered manner front a all before after b (scan_on (scanner_at new pending) tail) On
+    → FedBy Answered (feeding a all before) (feeding b (scan_on (scanner_at old pending) whole) after)
+    → CarriesBy Answered Unanswered manner front (feeding a all before) (feeding b (scan_on (scanner_at new pending) tail) after) On
 more_feeds manner front a b all before after old new pending rest whole tail scans same none f =
     let left : scan_on (scanner_at new pending) tail ≡ scanner_at new pending =
     ap (λ bs. scan_on (scanner_at new pending) bs) none ∙ scan_nil (scanner_at new pending) in
-    rw left (goes_on manner front a b all (scanner_at new pending) before after (scanner_goes_on new pending) (rw scans at (rw (← same) at f)))
+    rw left (goes_on manner front _ _ (scanner_goes_on new pending) (rw scans at (rw (← same) at f)))
 
 ended_stays : (e : Option Errno) (bytes : List ℕ) → scan_on (ended_by e) bytes ≡ ended_by e
 ended_stays e bytes = ap (λ (s : Scanned). let x : Scanned = record { items = End e ∷ s.items; next = s.next } in x) (scan_end bytes)
@@ -286,45 +278,45 @@ piece_scans items scanner old new kept rest taken TooLong n going scans = scans 
 
 pub on_fed : {S : Type 0} {Answered : S → Item → Reply → S → Type 0} {Unanswered : S → Item → S → Type 0} (manner : Manner) (front : Front) (a b c : S)
     (all left piece next : Scanned) (before mid after tail tail' : List ℕ)
-    → left ≡ scan_on piece tail → tail ≡ tail' → FedBy Answered a all before mid b left → CarriesBy Answered Unanswered manner front b piece mid after c next On
-    → FedBy Answered a all before after c (scan_on next tail')
+    → left ≡ scan_on piece tail → tail ≡ tail' → FedBy Answered (feeding a all before) (feeding b left mid)
+    → CarriesBy Answered Unanswered manner front (feeding b piece mid) (feeding c next after) On
+    → FedBy Answered (feeding a all before) (feeding c (scan_on next tail') after)
 on_fed manner front a b c all left piece next before mid after tail tail' e same f g =
-    rw (sym same) (fed_then a b c all left (scan_on next tail) before mid after f
-    (rw e (fed_more b c piece next mid after tail (feeds_on manner front b c piece next mid after g))))
+    rw (sym same) (fed_then _ (feeding b left mid) _ f (rw e (fed_more (feeding b piece mid) (feeding c next after) tail (feeds_on manner front _ _ g))))
 
 pub stop_feeds : {S : Type 0} {Answered : S → Item → Reply → S → Type 0} {Unanswered : S → Item → S → Type 0} (manner : Manner) (front : Front) (a b c : S)
     (all left piece next : Scanned) (before mid after tail tail' : List ℕ) (going : Going) → going ≢ On
-    → left ≡ scan_on piece tail → tail ≡ tail' → FedBy Answered a all before mid b left
-    → CarriesBy Answered Unanswered manner front b piece mid after c next going
-    → CarriesBy Answered Unanswered manner front a all before after c (scan_on next tail') going
+    → left ≡ scan_on piece tail → tail ≡ tail' → FedBy Answered (feeding a all before) (feeding b left mid)
+    → CarriesBy Answered Unanswered manner front (feeding b piece mid) (feeding c next after) going
+    → CarriesBy Answered Unanswered manner front (feeding a all before) (feeding c (scan_on next tail') after) going
 stop_feeds manner front a b c all left piece next before mid after tail tail' going stops e same f g =
-    rw (sym same) (feeds_then manner front a b c all left (scan_on next tail) before mid after going f
-    (rw e (feeds_more manner front b c piece next mid after tail going stops g)))
+    rw (sym same) (feeds_then manner front _ (feeding b left mid) _ going f
+    (rw e (feeds_more manner front (feeding b piece mid) (feeding c next after) tail going stops g)))
 
 -- ---- bytes after a READBUF that waits
 
 pub ended_feeds : {S : Type 0} {Answered : S → Item → Reply → S → Type 0} {Unanswered : S → Item → S → Type 0} (manner : Manner) (front : Front) (a : S)
     (before bytes more : List ℕ)
-    → CarriesBy Answered Unanswered manner front a (scan_on (no_item AtEnd) bytes) before before a (scan_on (no_item AtEnd) more) Ended
+    → CarriesBy Answered Unanswered manner front (feeding a (scan_on (no_item AtEnd) bytes) before) (feeding a (scan_on (no_item AtEnd) more) before) Ended
 ended_feeds manner front a before bytes more =
     rw (scan_end bytes, scan_end more)
-    (feeds_of manner front a a a (no_item AtEnd) (no_item AtEnd) before before Ended (fed_none a (no_item AtEnd) before) (refl, refl))
+    (feeds_of manner front _ a _ Ended (fed_none _) (refl, refl))
 
 pub resumed : {S : Type 0} {Answered : S → Item → Reply → S → Type 0} {Unanswered : S → Item → S → Type 0} (manner : Manner) (front : Front) (a b : S)
     (c : ℕ × Going → S) (all left : Scanned) (before mid after bytes : List ℕ) (next : ℕ × Going → Scanned) (r : Result (ℕ × Going) Mem)
-    → CarriesBy Answered Unanswered manner front a all before mid b left On
-    → IfOk r (λ x. CarriesBy Answered Unanswered manner front b (scan_on left bytes) mid after (c x) (next x) x.1)
-    → IfOk r (λ x. CarriesBy Answered Unanswered manner front a (scan_on all bytes) before after (c x) (next x) x.1)
+    → CarriesBy Answered Unanswered manner front (feeding a all before) (feeding b left mid) On
+    → IfOk r (λ x. CarriesBy Answered Unanswered manner front (feeding b (scan_on left bytes) mid) (feeding (c x) (next x) after) x.1)
+    → IfOk r (λ x. CarriesBy Answered Unanswered manner front (feeding a (scan_on all bytes) before) (feeding (c x) (next x) after) x.1)
 resumed manner front a b c all left before mid after bytes next (Ok x) f g =
-    feeds_then manner front a b (c x) (scan_on all bytes) (scan_on left bytes) (next x) before mid after x.1
-    (fed_more a b all left before mid bytes (feeds_on manner front a b all left before mid f)) g
+    feeds_then manner front _ (feeding b (scan_on left bytes) mid) _ x.1
+    (fed_more (feeding a all before) (feeding b left mid) bytes (feeds_on manner front _ _ f)) g
 resumed manner front a b c all left before mid after bytes next (Err fault) f g = tt
 
 -- if no bytes come after it
 pub again_feeds : {S : Type 0} {Answered : S → Item → Reply → S → Type 0} {Unanswered : S → Item → S → Type 0} (manner : Manner) (front : Front) (a b : S)
     (all left : Scanned) (before after bytes : List ℕ) (going : Going) → bytes ≡ []
-    → CarriesBy Answered Unanswered manner front a all before after b left going
-    → CarriesBy Answered Unanswered manner front a (scan_on all bytes) before after b (scan_on left (drop 0 bytes)) going
+    → CarriesBy Answered Unanswered manner front (feeding a all before) (feeding b left after) going
+    → CarriesBy Answered Unanswered manner front (feeding a (scan_on all bytes) before) (feeding b (scan_on left (drop 0 bytes)) after) going
 again_feeds manner front a b all left before after bytes going none f = rw none (rw (scan_nil all, scan_nil left) f)
 
 pub none_begun : (lines : LinesRecord) (kept : PendingRecord) → lines ≡ after_piece lines.piece → (stream_by On lines kept).items ≡ []
@@ -334,8 +326,9 @@ none_begun lines kept is = ap (λ (z : LinesRecord). (stream_by On z kept).items
 pub unread_feeds : {S : Type 0} {Answered : S → Item → Reply → S → Type 0} {Unanswered : S → Item → S → Type 0} (manner : Manner) (front : Front) (a b : S)
     (all : Scanned) (before after bytes : List ℕ) (taken : ℕ) (going : Going) (lines : LinesRecord) (kept : PendingRecord)
     → (going ≡ On → (taken ≡ length bytes) × ((stream_by On lines kept).items ≡ []))
-    → CarriesBy Answered Unanswered manner front a all before after b (scan_on (stream_by going lines kept) (drop taken bytes)) going
-    → CarriesBy Answered Unanswered manner front a all before after b (scan_on (stream_by going lines kept) (unread_of going taken bytes)) going
+    → CarriesBy Answered Unanswered manner front (feeding a all before) (feeding b (scan_on (stream_by going lines kept) (drop taken bytes)) after) going
+    → CarriesBy Answered Unanswered manner front (feeding a all before) (feeding b (scan_on (stream_by going lines kept) (unread_of going taken bytes)) after)
+    going
 unread_feeds manner front a b all before after bytes taken On lines kept on f =
     let none : drop taken bytes ≡ [] = ap (λ n. drop n bytes) (on refl).0 ∙ drop_all bytes in rw none at f
 unread_feeds manner front a b all before after bytes taken (Waits dev) lines kept on f = f
@@ -346,14 +339,17 @@ pub first_feeds : {S : Type 0} {Answered : S → Item → Reply → S → Type 0
     (all : Scanned) (before after bytes held left : List ℕ) (taken : ℕ) (going : Going) (lines : LinesRecord) (kept : PendingRecord)
     → held ≡ [] → left ≡ held ++ unread_of going taken bytes
     → (going ≡ On → (taken ≡ length bytes) × ((stream_by On lines kept).items ≡ []))
-    → CarriesBy Answered Unanswered manner front a (scan_on all bytes) before after b (scan_on (stream_by going lines kept) (drop taken bytes)) going
-    → CarriesBy Answered Unanswered manner front a (scan_on (scan_on all held) bytes) before after b (scan_on (stream_by going lines kept) left) going
+    → CarriesBy Answered Unanswered manner front (feeding a (scan_on all bytes) before)
+    (feeding b (scan_on (stream_by going lines kept) (drop taken bytes)) after) going
+    → CarriesBy Answered Unanswered manner front (feeding a (scan_on (scan_on all held) bytes) before)
+    (feeding b (scan_on (stream_by going lines kept) left) after) going
 first_feeds {S} {Answered} {Unanswered} manner front a b all before after bytes held left taken going lines kept none now on f =
     let same : scan_on (scan_on all held) bytes ≡ scan_on all bytes =
     ap (λ bs. scan_on (scan_on all bs) bytes) none ∙ ap (λ x. scan_on x bytes) (scan_nil all) in
     let unread : left ≡ unread_of going taken bytes = now ∙ ap (λ (bs : List ℕ). bs ++ unread_of going taken bytes) none in
-    subst (λ x. CarriesBy Answered Unanswered manner front a x before after b (scan_on (stream_by going lines kept) left) going) (sym same)
-    (subst (λ bs. CarriesBy Answered Unanswered manner front a (scan_on all bytes) before after b (scan_on (stream_by going lines kept) bs) going) (sym unread)
+    subst (λ x. CarriesBy Answered Unanswered manner front (feeding a x before) (feeding b (scan_on (stream_by going lines kept) left) after) going) (sym same)
+    (subst (λ bs. CarriesBy Answered Unanswered manner front (feeding a (scan_on all bytes) before) (feeding b (scan_on (stream_by going lines kept) bs) after)
+    going) (sym unread)
     (unread_feeds manner front a b (scan_on all bytes) before after bytes taken going lines kept on f))
 
 -- bytes were kept before, and are looked at first
@@ -361,12 +357,15 @@ pub kept_feeds : {S : Type 0} {Answered : S → Item → Reply → S → Type 0}
     (all : Scanned) (before after bytes held whole left : List ℕ) (taken : ℕ) (going : Going) (lines : LinesRecord) (kept : PendingRecord)
     → ItemsCutAnywhere → ScannerCutAnywhere → whole ≡ held ++ bytes → left ≡ unread_of going taken whole
     → (going ≡ On → (taken ≡ length whole) × ((stream_by On lines kept).items ≡ []))
-    → CarriesBy Answered Unanswered manner front a (scan_on all whole) before after b (scan_on (stream_by going lines kept) (drop taken whole)) going
-    → CarriesBy Answered Unanswered manner front a (scan_on (scan_on all held) bytes) before after b (scan_on (stream_by going lines kept) left) going
+    → CarriesBy Answered Unanswered manner front (feeding a (scan_on all whole) before)
+    (feeding b (scan_on (stream_by going lines kept) (drop taken whole)) after) going
+    → CarriesBy Answered Unanswered manner front (feeding a (scan_on (scan_on all held) bytes) before)
+    (feeding b (scan_on (stream_by going lines kept) left) after) going
 kept_feeds {S} {Answered} {Unanswered} manner front a b all before after bytes held whole left taken going lines kept items scanner joined unread on f =
     let same : scan_on (scan_on all held) bytes ≡ scan_on all whole = scan_more items scanner all held bytes ∙ ap (λ bs. scan_on all bs) (sym joined) in
-    subst (λ x. CarriesBy Answered Unanswered manner front a x before after b (scan_on (stream_by going lines kept) left) going) (sym same)
-    (subst (λ bs. CarriesBy Answered Unanswered manner front a (scan_on all whole) before after b (scan_on (stream_by going lines kept) bs) going) (sym unread)
+    subst (λ x. CarriesBy Answered Unanswered manner front (feeding a x before) (feeding b (scan_on (stream_by going lines kept) left) after) going) (sym same)
+    (subst (λ bs. CarriesBy Answered Unanswered manner front (feeding a (scan_on all whole) before) (feeding b (scan_on (stream_by going lines kept) bs) after)
+    going) (sym unread)
     (unread_feeds manner front a b (scan_on all whole) before after whole taken going lines kept on f))
 
 -- ---- a command of the code

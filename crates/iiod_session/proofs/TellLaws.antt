@@ -10,9 +10,10 @@ use Rattle.iiod_commands.specs.declared.manner.Manner.{Manner}
 use Rattle.iiod_commands.specs.declared.manner.Manner.TheVariants.{Script, Server}
 use Rattle.iiod_commands.specs.Acts.{Acted, Acts, act}
 use Rattle.iio_core.specs.Front.{Front}
+use Rattle.iiod_commands.specs.Client.{State}
 use Rattle.iio_core.specs.Machine.{Machine}
 use Rattle.iiod_commands.specs.Performs.{IsAllowed}
-use Rattle.iiod_session.specs.Run.{State, IsAnswered, Run, Carries, FeedTells, Tells}
+use Rattle.iiod_session.specs.Run.{Carries, FeedTells, Feeding, IsAnswered, Run, Tells}
 
 -- what one item made
 record Acting (front : Front) (a mid : State) (m : Machine) (item : Item) (reply : Reply) : Type 0 where
@@ -58,23 +59,22 @@ run_tells front a b m (x ∷ xs) (y ∷ ys) r told =
     }
 
 -- all items that were whole are answered
-all_tell : (front : Front) (a b : State) (all left : Scanned) (before after : List ℕ) (going : Going) (told : Option Machine) → a.told ≡ told → left.items ≡ []
-    → (f : Carries Script front a all before after b left going) → b ≡ f.mid → FeedTells Script front a all.items before after b
-all_tell front a b all left before after going None is none f same = rw is tt
-all_tell front a b all left before after going (Some m) is none f same =
-    let items : all.items ≡ f.fed.items = f.fed.heard ∙ ap (λ (xs : List Item). f.fed.items ++ xs) none ∙ append-nil f.fed.items in
-    rw (is, items, same) (flat_map text_of f.fed.replies, f.fed.text, run_tells front a f.mid m f.fed.items f.fed.replies f.fed.run is)
+all_tell : (front : Front) (x y : Feeding State) (going : Going) (told : Option Machine) → x.state.told ≡ told → y.stream.items ≡ []
+    → (f : Carries Script front x y going) → y.state ≡ f.mid → FeedTells Script front x.state x.stream.items x.out y.out y.state
+all_tell front x y going None is none f same = rw is tt
+all_tell front x y going (Some m) is none f same =
+    let items : x.stream.items ≡ f.fed.items = f.fed.heard ∙ ap (λ (xs : List Item). f.fed.items ++ xs) none ∙ append-nil f.fed.items in
+    rw (is, items, same) (flat_map text_of f.fed.replies, f.fed.text, run_tells front x.state f.mid m f.fed.items f.fed.replies f.fed.run is)
 
-feeds_tell : (front : Front) (a b : State) (all left : Scanned) (before after : List ℕ) (going : Going) → (going ≡ On → left.items ≡ [])
-    → Carries Script front a all before after b left going → FeedTells Script front a all.items before after b
-feeds_tell front a b all left before after On none f = all_tell front a b all left before after On a.told refl (none refl) f f.stands.0
-feeds_tell front a b all left before after Ended none f =
-    all_tell front a b all left before after Ended a.told refl (ap (λ (x : Scanned). x.items) f.stands.1) f f.stands.0
-feeds_tell front a b all left before after (Waits dev) none f = let never : Script ≡ Server = f.stands.server in cc
+feeds_tell : (front : Front) (x y : Feeding State) (going : Going) → (going ≡ On → y.stream.items ≡ [])
+    → Carries Script front x y going → FeedTells Script front x.state x.stream.items x.out y.out y.state
+feeds_tell front x y On none f = all_tell front x y On x.state.told refl (none refl) f f.stands.0
+feeds_tell front x y Ended none f = all_tell front x y Ended x.state.told refl (ap (λ (s : Scanned). s.items) f.stands.1) f f.stands.0
+feeds_tell front x y (Waits dev) none f = let never : Script ≡ Server = f.stands.server in cc
 
-pub feed_tells : (manner : Manner) (front : Front) (a b : State) (all left : Scanned) (before after : List ℕ) (r : Result Going Mem)
-    → IfOk r (λ going. going ≡ On → left.items ≡ []) → IfOk r (Carries manner front a all before after b left)
-    → IfOk r (λ going. FeedTells manner front a all.items before after b)
-feed_tells Script front a b all left before after (Ok going) none f = feeds_tell front a b all left before after going none f
-feed_tells Server front a b all left before after (Ok going) none f = tt
-feed_tells manner front a b all left before after (Err fault) none f = tt
+pub feed_tells : (manner : Manner) (front : Front) (x y : Feeding State) (r : Result Going Mem)
+    → IfOk r (λ going. going ≡ On → y.stream.items ≡ []) → IfOk r (Carries manner front x y)
+    → IfOk r (λ going. FeedTells manner front x.state x.stream.items x.out y.out y.state)
+feed_tells Script front x y (Ok going) none f = feeds_tell front x y going none f
+feed_tells Server front x y (Ok going) none f = tt
+feed_tells manner front x y (Err fault) none f = tt

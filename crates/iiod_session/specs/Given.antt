@@ -4,7 +4,7 @@ use Rattle.std.specs.Option.{option_map_or}
 use Rattle.iiod_grammar.specs.Command.{Open, ReadBuf, Remask}
 use Rattle.iiod_grammar.specs.Stream.{Item, Said}
 use Rattle.iiod_reply.specs.Reply.{Reply, Number, Block}
-use Rattle.iiod_commands.specs.Client.{SeatState}
+use Rattle.iiod_commands.specs.Client.{SeatState, State}
 use Rattle.iio_core.specs.Front.{Front, find_device}
 use Rattle.iiod_commands.specs.Seat.{Trace}
 
@@ -37,8 +37,6 @@ given_in None = []
 given_in (Some t) = t.given
 
 -- for each device whose seat has a trace: the scans that it gave are those given before, followed by those of the answers
-abbrev pub GivenIs : Front → List Item → List Reply → (seats : List SeatState) → (traces : List (Option Trace)) → (seats' : List SeatState)
-    → (traces' : List (Option Trace))
-    → Type 0
-GivenIs front items replies seats traces seats' traces' = (dev : ℕ) (t : Trace) → trace_at dev seats' traces' ≡ Some t
-    → t.given ≡ given_after front dev items replies (given_in (trace_at dev seats traces))
+abbrev pub GivenIs : Front → List Item → List Reply → State → State → Type 0
+GivenIs front items replies a b = (dev : ℕ) (t : Trace) → trace_at dev b.client.seats b.traces ≡ Some t
+    → t.given ≡ given_after front dev items replies (given_in (trace_at dev a.client.seats a.traces))

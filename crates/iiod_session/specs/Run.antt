@@ -1,41 +1,39 @@
 -- A feed: the items received and not answered yet, each with its answer, one after another.
-use Rattle.std.specs.Prelude.{◌≡◌, ◌≢◌, ℕ, List, [], ◌∷◌, ◌++◌, Option, Some, IfSome}
+use Rattle.std.specs.Prelude.{◌≡◌, ◌≢◌, ℕ, List, [], ◌∷◌, ◌++◌, Some, IfSome}
 use Rattle.std.specs.List.{flat_map}
 use Rattle.iio_text.specs.declared.errors.Errno.TheVariants.{EAGAIN}
 use Rattle.iiod_grammar.specs.Stream.{Item, Scanned, AtEnd}
 use Rattle.iiod_reply.specs.Reply.{Reply, Refusal, text_of}
-use Rattle.iiod_commands.specs.declared.client.Client.{Client}
 use Rattle.iiod_session.specs.declared.going.Going.{Going}
 use Rattle.iiod_session.specs.declared.going.Going.TheVariants.{On, Waits, Ended}
 use Rattle.iiod_commands.specs.declared.manner.Manner.{Manner}
 use Rattle.iiod_commands.specs.declared.manner.Manner.TheVariants.{Script, Server}
 use Rattle.iiod_commands.specs.Acts.{act}
-use Rattle.iiod_commands.specs.Client.{ClientRecord, client_of, traces_of}
+use Rattle.iiod_commands.specs.Client.{ClientRecord, State}
 use Rattle.iio_core.specs.Front.{Front}
 use Rattle.iiod_session.specs.Given.{GivenIs}
 use Rattle.iio_core.specs.Machine.{Machine}
 use Rattle.iiod_commands.specs.Moves.{Serves}
 use Rattle.iiod_commands.specs.Performs.{IsAllowed, IsAnswerOf, IsReadOf}
-use Rattle.iiod_commands.specs.Seat.{SeatRecord, Trace}
 
--- the state of the devices, if it is told, and what the connection has, with the traces of its seats
-pub record State : Type 0 where
-  pub told : Option Machine
-  pub client : ClientRecord
-  pub traces : List (Option Trace)
+-- what a feed changes: a state, the items received and not answered yet with where the stream stands, and the answers so far
+pub record Feeding (S : Type 0) : Type 0 where
+  pub state : S
+  pub stream : Scanned
+  pub out : List ℕ
 
-abbrev pub state_of : {S : Type 0} → (S → SeatRecord) → Option Machine → Client S → State
-state_of seen told d = record { told = told; client = client_of seen d; traces = traces_of seen d.held.items }
+abbrev pub feeding : {S : Type 0} → S → Scanned → List ℕ → Feeding S
+feeding s stream out = record { state = s; stream = stream; out = out }
 
 -- one item and its answer
 pub record IsAnswered (manner : Manner) (front : Front) (a : State) (item : Item) (reply : Reply) (b : State) : Type 0 where
   pub allowed : IsAllowed manner reply
   pub answer : IsAnswerOf item manner reply
-  pub served : Serves front a.told a.client a.traces item reply b.told b.client b.traces
+  pub served : Serves front a item reply b
 
 -- a READBUF for which nothing waits: it isn't answered yet
 abbrev pub FindsNone : Front → State → Item → State → Type 0
-FindsNone front a item b = Serves front a.told a.client a.traces item (Refusal EAGAIN) b.told b.client b.traces
+FindsNone front a item b = Serves front a item (Refusal EAGAIN) b
 
 -- ---- items one after another, over any states: `Answered` says what an item and its answer make, `Unanswered` what a READBUF
 -- that waits makes
@@ -48,14 +46,14 @@ module _ {S : Type 0} (Answered : S → Item → Reply → S → Type 0) where
   RunBy a [] (reply ∷ replies) b = ⊥
   RunBy a (item ∷ items) [] b = ⊥
 
-  -- the first of the whole items were answered: `all` is the stream before, `left` what is left of it
-  pub record FedBy (a : S) (all : Scanned) (before after : List ℕ) (b : S) (left : Scanned) : Type 0 where
+  -- the first of the whole items were answered
+  pub record FedBy (x y : Feeding S) : Type 0 where
     pub items : List Item
     pub replies : List Reply
-    pub heard : all.items ≡ items ++ left.items
-    pub next : left.next ≡ all.next
-    pub text : after ≡ before ++ flat_map text_of replies
-    pub run : RunBy a items replies b
+    pub heard : x.stream.items ≡ items ++ y.stream.items
+    pub next : y.stream.next ≡ x.stream.next
+    pub text : y.out ≡ x.out ++ flat_map text_of replies
+    pub run : RunBy x.state items replies y.state
 
 module _ {S : Type 0} (Unanswered : S → Item → S → Type 0) (manner : Manner) (front : Front) where
   -- the first item left is a READBUF of that device, for which nothing waits
@@ -75,30 +73,26 @@ module _ {S : Type 0} (Unanswered : S → Item → S → Type 0) (manner : Manne
 
 -- the first of these items were carried out, and the connection then stands so
 pub record CarriesBy {S : Type 0} (Answered : S → Item → Reply → S → Type 0) (Unanswered : S → Item → S → Type 0) (manner : Manner) (front : Front)
-    (a : S) (all : Scanned) (before after : List ℕ) (b : S) (left : Scanned) (going : Going) : Type 0 where
+    (x y : Feeding S) (going : Going) : Type 0 where
   pub mid : S
-  pub fed : FedBy Answered a all before after mid left
-  pub stands : StandsBy Unanswered manner front mid left b going
+  pub fed : FedBy Answered x (record y { state = mid })
+  pub stands : StandsBy Unanswered manner front mid y.stream y.state going
 
 -- ---- over the state of the devices and what the connection has
 
 abbrev pub Run : Manner → Front → State → List Item → List Reply → State → Type 0
 Run manner front = RunBy (IsAnswered manner front)
 
-abbrev pub Fed : Manner → Front → State → Scanned → List ℕ → List ℕ → State → Scanned → Type 0
-Fed manner front = FedBy (IsAnswered manner front)
-
 abbrev pub Stands : Manner → Front → State → Scanned → State → Going → Type 0
 Stands manner front = StandsBy (FindsNone front) manner front
 
-abbrev pub Carries : Manner → Front → State → Scanned → List ℕ → List ℕ → State → Scanned → Going → Type 0
+abbrev pub Carries : Manner → Front → Feeding State → Feeding State → Going → Type 0
 Carries manner front = CarriesBy (IsAnswered manner front) (FindsNone front) manner front
 
 -- ... and the scans that the seats gave are those that were answered
-pub record Feeds (manner : Manner) (front : Front) (a : State) (all : Scanned) (before after : List ℕ) (b : State) (left : Scanned) (going : Going) : Type
-    0 where
-  pub carried : Carries manner front a all before after b left going
-  pub given : GivenIs front carried.fed.items carried.fed.replies a.client.seats a.traces b.client.seats b.traces
+pub record Feeds (manner : Manner) (front : Front) (x y : Feeding State) (going : Going) : Type 0 where
+  pub carried : Carries manner front x y going
+  pub given : GivenIs front carried.fed.items carried.fed.replies x.state y.state
 
 -- ---- in a script, over a told state: everything is determined
 

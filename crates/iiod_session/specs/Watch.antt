@@ -3,7 +3,7 @@ use Rattle.std.specs.Prelude.{◌≡◌, ℕ, ◌<◌, min, Bool, true, false, L
 use Rattle.iio_text.specs.declared.errors.Errno.TheVariants.{E2BIG, EFBIG}
 use Rattle.iiod_grammar.specs.declared.lines.TheConstants.{MAX_PAYLOAD}
 use Rattle.iiod_grammar.specs.Command.{Command as SaidCommand, Exit, Write, WriteBuf}
-use Rattle.iiod_grammar.specs.Stream.{Item, Said, Written, Streamed, End, Scanned}
+use Rattle.iiod_grammar.specs.Stream.{Item, Said, Written, Streamed, End}
 use Rattle.iiod_grammar.specs.View.{command_view}
 use Rattle.iiod_reply.specs.Reply.{Reply}
 use Rattle.iiod_commands.specs.declared.client.Client.{Client}
@@ -14,9 +14,10 @@ use Rattle.iiod_session.specs.declared.watch.Seen.{Seen}
 use Rattle.iiod_session.specs.declared.watch.Seen.TheVariants.{Command, Refused, TooLong}
 use Rattle.iio_core.specs.Front.{Front}
 use Rattle.iio_core.specs.Machine.{Machine}
-use Rattle.iiod_session.specs.Run.{State, CarriesBy, FedBy, FindsNone, IsAnswered, state_of}
+use Rattle.iiod_session.specs.Run.{CarriesBy, FedBy, FindsNone, IsAnswered, Feeding}
 use Rattle.iiod_commands.specs.Seat.{SeatRecord}
 use Rattle.iiod_session.specs.Session.{IsPlain}
+use Rattle.iiod_commands.specs.Client.{State, state_of}
 
 -- a command whose payload is too large
 abbrev pub IsTooLarge : SaidCommand → Type 0
@@ -71,9 +72,9 @@ module _ {W : Type 0} (makes : Front → Option Machine → ℕ → Item → W �
     pub served : FindsNone front a.state item b.state
     pub put : b.told ≡ true
 
-  abbrev pub Heard : Scene W → Scanned → List ℕ → List ℕ → Scene W → Scanned → Type 0
+  abbrev pub Heard : Feeding (Scene W) → Feeding (Scene W) → Type 0
   Heard = FedBy IsHeard
 
   -- the first of these items were carried out, each told once
-  abbrev pub Hears : Scene W → Scanned → List ℕ → List ℕ → Scene W → Scanned → Going → Type 0
+  abbrev pub Hears : Feeding (Scene W) → Feeding (Scene W) → Going → Type 0
   Hears = CarriesBy IsHeard IsPut manner front

@@ -8,7 +8,7 @@ ghost use Rattle.iiod_grammar.specs.Stream.{AtEnd, End, after_line, ended_by, no
 ghost use Rattle.iiod_grammar.specs.View.{command_view};
 ghost use Rattle.iiod_reply.specs.Reply.{text_of};
 ghost use Rattle.iiod_commands.specs.Acts.{end_reply};
-ghost use Rattle.iiod_commands.specs.Client.{IsClient, client_of, traces_of};
+ghost use Rattle.iiod_commands.specs.Client.{IsClient, state_of, answering};
 ghost use Rattle.iiod_session.specs.PendingWrite.{PendingRecord, pending_of};
 ghost use Rattle.iiod_commands.specs.Performs.{IsAtOnce, Performs};
 ghost use Rattle.iiod_session.specs.Session.{IsKept, IsReady, IsWhole, piece_by, stream_by, unread_of};
@@ -16,6 +16,7 @@ ghost use Rattle.iiod_session.specs.Watch.{Hears, IsSeen, is_waiting, scene_of};
 ghost use Rattle.iiod_session.specs.declared.going.Going.{Going};
 ghost use Rattle.iiod_commands.specs.declared.manner.Manner.{Manner};
 ghost use Rattle.iiod_grammar.specs.declared.lines.Ready.{Ready};
+ghost use Rattle.iiod_session.specs.Run.{feeding};
 
 use crate::going::Going;
 use crate::pending_write::PendingWrite;
@@ -53,9 +54,9 @@ fn end<I: Iio, W: Watch<I>>(
     ensures kept { I.kept iio.new ≡ I.kept iio.old }
     ensures client { IsClient I.seen (I.front (I.kept iio.new)) client.new }
     ensures ended { IfOk result (λ going. going ≡ Going.Ended) }
-    ensures hears { (manner : Manner)
-        → IfOk result (λ going. Hears W.makes manner (I.front (I.kept iio.old)) (scene_of I.seen (I.told iio.old) client.old watch.old false)
-        (ended_by error) out.old.items out.new.items (scene_of I.seen (I.told iio.new) client.new watch.new false) (no_item AtEnd) going) }
+    ensures hears { (manner : Manner) → IfOk result (λ going. Hears W.makes manner (I.front (I.kept iio.old))
+        (feeding (scene_of I.seen (I.told iio.old) client.old watch.old false) (ended_by error) out.old.items)
+        (feeding (scene_of I.seen (I.told iio.new) client.new watch.new false) (no_item AtEnd) out.new.items) going) }
 {
     watch.before(iio, client.who, seen);
     push_end(out, error)?;
@@ -73,11 +74,10 @@ fn hear_refused<I: Iio, W: Watch<I>>(
     out: &mut Vec<u8>,
 ) -> Result<Going, Mem>
     ensures ready { (lines : LinesRecord) (pending : PendingRecord) → lines ≡ after_piece lines.piece → IfOk result (λ going. IsReady going lines pending) }
-    ensures hears { (lines : LinesRecord) (pending : PendingRecord) → lines ≡ after_piece lines.piece
-        → command_of lines.piece ≡ Err why
-        → IfOk result (λ going. Hears W.makes manner (I.front (I.kept iio.now)) (scene_of I.seen (I.told iio.now) client.now watch.old false)
-        (after_line lines.piece) out.old.items out.new.items (scene_of I.seen (I.told iio.now) client.now watch.new (is_waiting going))
-        (stream_by going lines pending) going) }
+    ensures hears { (lines : LinesRecord) (pending : PendingRecord) → lines ≡ after_piece lines.piece → command_of lines.piece ≡ Err why
+        → IfOk result (λ going. Hears W.makes manner (I.front (I.kept iio.now))
+        (feeding (scene_of I.seen (I.told iio.now) client.now watch.old false) (after_line lines.piece) out.old.items)
+        (feeding (scene_of I.seen (I.told iio.now) client.now watch.new (is_waiting going)) (stream_by going lines pending) out.new.items) going) }
 {
     watch.before(iio, client.who, &Seen::Refused);
     perform_refused(manner, client, iio, why, out)?;
@@ -99,11 +99,10 @@ fn hear_said<I: Iio, W: Watch<I>>(
     ensures kept { I.kept iio.new ≡ I.kept iio.old }
     ensures client { IsClient I.seen (I.front (I.kept iio.new)) client.new }
     ensures ready { (lines : LinesRecord) (pending : PendingRecord) → lines ≡ after_piece lines.piece → IfOk result (λ going. IsReady going lines pending) }
-    ensures hears { (lines : LinesRecord) (pending : PendingRecord) → lines ≡ after_piece lines.piece
-        → command_of lines.piece ≡ Ok (command_view command.now)
-        → IfOk result (λ going. Hears W.makes manner (I.front (I.kept iio.old)) (scene_of I.seen (I.told iio.old) client.old watch.old false)
-        (after_line lines.piece) out.old.items out.new.items (scene_of I.seen (I.told iio.new) client.new watch.new (is_waiting going))
-        (stream_by going lines pending) going) }
+    ensures hears { (lines : LinesRecord) (pending : PendingRecord) → lines ≡ after_piece lines.piece → command_of lines.piece ≡ Ok (command_view command.now)
+        → IfOk result (λ going. Hears W.makes manner (I.front (I.kept iio.old))
+        (feeding (scene_of I.seen (I.told iio.old) client.old watch.old false) (after_line lines.piece) out.old.items)
+        (feeding (scene_of I.seen (I.told iio.new) client.new watch.new (is_waiting going)) (stream_by going lines pending) out.new.items) going) }
 {
     watch.before(iio, client.who, &Seen::Command(*command));
     perform(alloc, manner, client, iio, command, out)?;
@@ -126,11 +125,10 @@ fn hear_read<I: Iio, W: Watch<I>>(
     ensures client { IsClient I.seen (I.front (I.kept iio.new)) client.new }
     ensures ready { (lines : LinesRecord) → lines ≡ after_piece lines.piece
         → command_of lines.piece ≡ Ok (ReadBuf device.now asked) → IfOk result (λ going. IsReady going lines pending.new) }
-    ensures hears { (lines : LinesRecord) → lines ≡ after_piece lines.piece
-        → command_of lines.piece ≡ Ok (ReadBuf device.now asked)
-        → IfOk result (λ going. Hears W.makes manner (I.front (I.kept iio.old)) (scene_of I.seen (I.told iio.old) client.old watch.old false)
-        (after_line lines.piece) out.old.items out.new.items (scene_of I.seen (I.told iio.new) client.new watch.new (is_waiting going))
-        (stream_by going lines pending.new) going) }
+    ensures hears { (lines : LinesRecord) → lines ≡ after_piece lines.piece → command_of lines.piece ≡ Ok (ReadBuf device.now asked)
+        → IfOk result (λ going. Hears W.makes manner (I.front (I.kept iio.old))
+        (feeding (scene_of I.seen (I.told iio.old) client.old watch.old false) (after_line lines.piece) out.old.items)
+        (feeding (scene_of I.seen (I.told iio.new) client.new watch.new (is_waiting going)) (stream_by going lines pending.new) out.new.items) going) }
 {
     let command = Command::ReadBuf {
         dev: device,
@@ -160,11 +158,10 @@ fn hear_again<I: Iio, W: Watch<I>>(
     ensures client { IsClient I.seen (I.front (I.kept iio.new)) client.new }
     ensures ready { (lines : LinesRecord) → lines ≡ after_piece lines.piece
         → command_of lines.piece ≡ Ok (ReadBuf pending.now.device pending.now.asked) → IfOk result (λ going. IsReady going lines pending.now) }
-    ensures hears { (lines : LinesRecord) → lines ≡ after_piece lines.piece
-        → command_of lines.piece ≡ Ok (ReadBuf pending.now.device pending.now.asked)
-        → IfOk result (λ going. Hears W.makes manner (I.front (I.kept iio.old)) (scene_of I.seen (I.told iio.old) client.old _watch.now true)
-        (after_line lines.piece) out.old.items out.new.items (scene_of I.seen (I.told iio.new) client.new _watch.now (is_waiting going))
-        (stream_by going lines pending.now) going) }
+    ensures hears { (lines : LinesRecord) → lines ≡ after_piece lines.piece → command_of lines.piece ≡ Ok (ReadBuf pending.now.device pending.now.asked)
+        → IfOk result (λ going. Hears W.makes manner (I.front (I.kept iio.old))
+        (feeding (scene_of I.seen (I.told iio.old) client.old _watch.now true) (after_line lines.piece) out.old.items)
+        (feeding (scene_of I.seen (I.told iio.new) client.new _watch.now (is_waiting going)) (stream_by going lines pending.now) out.new.items) going) }
 {
     match read_buffer(manner, client, iio, pending.device(), pending.asked(), out)? {
         Progress::Done => Ok(Going::On),
@@ -188,9 +185,9 @@ fn hear_line<I: Iio, W: Watch<I>>(
     ensures kept { I.kept iio.new ≡ I.kept iio.old }
     ensures client { IsClient I.seen (I.front (I.kept iio.new)) client.new }
     ensures ready { IfOk result (λ going. IsReady going lines.new pending.new) }
-    ensures hears { IfOk result (λ going. Hears W.makes manner (I.front (I.kept iio.old)) (scene_of I.seen (I.told iio.old) client.old watch.old false)
-        (after_line lines.old.piece) out.old.items out.new.items (scene_of I.seen (I.told iio.new) client.new watch.new (is_waiting going))
-        (stream_by going lines.new pending.new) going) }
+    ensures hears { IfOk result (λ going. Hears W.makes manner (I.front (I.kept iio.old))
+        (feeding (scene_of I.seen (I.told iio.old) client.old watch.old false) (after_line lines.old.piece) out.old.items)
+        (feeding (scene_of I.seen (I.told iio.new) client.new watch.new (is_waiting going)) (stream_by going lines.new pending.new) out.new.items) going) }
 {
     match &read_line(lines.piece()) {
         Err(why) => hear_refused(manner, client, iio, watch, *why, out),
@@ -240,10 +237,8 @@ fn hear_payload<I: Iio, W: Watch<I>>(
     ensures client { IsClient I.seen (I.front (I.kept iio.new)) client.new }
     ensures told { W.makes (I.front (I.kept iio.old)) (I.told iio.old) client.old.who
         (with_payload (pending_of pending.now) payload.now) watch.old watch.new }
-    ensures served { IfOk result (Performs manner (I.front (I.kept iio.old)) (I.told iio.old) (I.told iio.new)
-        (client_of I.seen client.old) (traces_of I.seen client.old.held.items)
-        (with_payload (pending_of pending.now) payload.now)
-        (client_of I.seen client.new) (traces_of I.seen client.new.held.items) out.old.items out.new.items) }
+    ensures served { IfOk result (Performs manner (I.front (I.kept iio.old)) (answering (state_of I.seen (I.told iio.old) client.old) out.old.items)
+        (with_payload (pending_of pending.now) payload.now) (answering (state_of I.seen (I.told iio.new) client.new) out.new.items)) }
 {
     if pending.is_scans() {
         let command = Command::WriteBuf {
@@ -289,9 +284,9 @@ fn hear_piece<I: Iio, W: Watch<I>>(
     ensures client { IsClient I.seen (I.front (I.kept iio.new)) client.new }
     ensures ready { IfOk result (λ going. IsReady going lines.new pending.new) }
     ensures payload { ready ≡ Ready.Payload → lines.new ≡ lines.old }
-    ensures hears { IfOk result (λ going. Hears W.makes manner (I.front (I.kept iio.old)) (scene_of I.seen (I.told iio.old) client.old watch.old false)
-        (piece_by ready lines.old pending.old) out.old.items out.new.items (scene_of I.seen (I.told iio.new) client.new watch.new (is_waiting going))
-        (stream_by going lines.new pending.new) going) }
+    ensures hears { IfOk result (λ going. Hears W.makes manner (I.front (I.kept iio.old))
+        (feeding (scene_of I.seen (I.told iio.old) client.old watch.old false) (piece_by ready lines.old pending.old) out.old.items)
+        (feeding (scene_of I.seen (I.told iio.new) client.new watch.new (is_waiting going)) (stream_by going lines.new pending.new) out.new.items) going) }
 {
     match ready {
         Ready::More => Ok(Going::On),
@@ -336,10 +331,10 @@ fn carry_on<I: Iio, W: Watch<I>>(
     ensures client { IsClient I.seen (I.front (I.kept iio.new)) client.new }
     ensures within { IfOk result (λ r. r.0 ≤ length bytes.now) }
     ensures ready { IfOk result (λ r. IsReady r.1 lines.new pending.new) }
-    ensures hears { IfOk result (λ r. Hears W.makes manner (I.front (I.kept iio.old)) (scene_of I.seen (I.told iio.old) client.old watch.old false)
-        (scan_on (stream_by Going.On lines.old pending.old) bytes.now) out.old.items out.new.items
-        (scene_of I.seen (I.told iio.new) client.new watch.new (is_waiting r.1))
-        (scan_on (stream_by r.1 lines.new pending.new) (drop r.0 bytes.now)) r.1) }
+    ensures hears { IfOk result (λ r. Hears W.makes manner (I.front (I.kept iio.old))
+        (feeding (scene_of I.seen (I.told iio.old) client.old watch.old false) (scan_on (stream_by Going.On lines.old pending.old) bytes.now) out.old.items)
+        (feeding (scene_of I.seen (I.told iio.new) client.new watch.new (is_waiting r.1)) (scan_on (stream_by r.1 lines.new pending.new) (drop r.0 bytes.now))
+        out.new.items) r.1) }
     ensures all { IfOk result (λ r. r.1 ≡ Going.On → (r.0 ≡ length bytes.now) × ((stream_by Going.On lines.new pending.new).items ≡ [])) }
 {
     cut_anywhere();
@@ -379,10 +374,11 @@ pub(crate) fn carry_out<I: Iio, W: Watch<I>>(
     ensures client { IsClient I.seen (I.front (I.kept iio.new)) client.new }
     ensures within { IfOk result (λ r. r.0 ≤ length bytes.now) }
     ensures ready { IfOk result (λ r. IsReady r.1 lines.new pending.new) }
-    ensures hears { IfOk result (λ r. Hears W.makes manner (I.front (I.kept iio.old)) (scene_of I.seen (I.told iio.old) client.old watch.old (is_waiting going))
-        (scan_on (stream_by going lines.old pending.old) bytes.now) out.old.items out.new.items
-        (scene_of I.seen (I.told iio.new) client.new watch.new (is_waiting r.1))
-        (scan_on (stream_by r.1 lines.new pending.new) (drop r.0 bytes.now)) r.1) }
+    ensures hears { IfOk result (λ r. Hears W.makes manner (I.front (I.kept iio.old))
+        (feeding (scene_of I.seen (I.told iio.old) client.old watch.old (is_waiting going)) (scan_on (stream_by going lines.old pending.old) bytes.now)
+        out.old.items)
+        (feeding (scene_of I.seen (I.told iio.new) client.new watch.new (is_waiting r.1)) (scan_on (stream_by r.1 lines.new pending.new) (drop r.0 bytes.now))
+        out.new.items) r.1) }
     ensures all { IfOk result (λ r. r.1 ≡ Going.On → (r.0 ≡ length bytes.now) × ((stream_by Going.On lines.new pending.new).items ≡ [])) }
 {
     match going {
@@ -446,11 +442,11 @@ pub(crate) fn hear<I: Iio, W: Watch<I>>(
     ensures kept { I.kept iio.new ≡ I.kept iio.old }
     ensures client { IsClient I.seen (I.front (I.kept iio.new)) client.new }
     ensures ready { IfOk result (λ going. IsKept going lines.new pending.new left.new.items) }
-    ensures hears { IfOk result
-        (λ going. Hears W.makes manner (I.front (I.kept iio.old)) (scene_of I.seen (I.told iio.old) client.old watch.old (is_waiting was))
-        (scan_on (scan_on (stream_by was lines.old pending.old) left.old.items) bytes.now) out.old.items out.new.items
-        (scene_of I.seen (I.told iio.new) client.new watch.new (is_waiting going))
-        (scan_on (stream_by going lines.new pending.new) left.new.items) going) }
+    ensures hears { IfOk result (λ going. Hears W.makes manner (I.front (I.kept iio.old))
+        (feeding (scene_of I.seen (I.told iio.old) client.old watch.old (is_waiting was))
+        (scan_on (scan_on (stream_by was lines.old pending.old) left.old.items) bytes.now) out.old.items)
+        (feeding (scene_of I.seen (I.told iio.new) client.new watch.new (is_waiting going)) (scan_on (stream_by going lines.new pending.new) left.new.items)
+        out.new.items) going) }
     ensures all { IfOk result (λ going. going ≡ Going.On → (scan_on (stream_by going lines.new pending.new) left.new.items).items ≡ []) }
 {
     if left.is_empty() {

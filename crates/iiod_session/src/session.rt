@@ -5,8 +5,8 @@ ghost use Rattle.iiod_grammar.specs.Scans.{scan_on};
 ghost use Rattle.iiod_grammar.specs.Stream.{AtEnd, no_item};
 ghost use Rattle.iiod_commands.specs.Acts.{left_client, left_machine};
 ghost use Rattle.iio_device.specs.Site.{is_empty};
-ghost use Rattle.iiod_commands.specs.Client.{IsClient, client_of, place_of, seats_of};
-ghost use Rattle.iiod_session.specs.Run.{FeedTells, Feeds, state_of};
+ghost use Rattle.iiod_commands.specs.Client.{IsClient, client_of, place_of, seats_of, state_of};
+ghost use Rattle.iiod_session.specs.Run.{FeedTells, Feeds, feeding};
 ghost use Rattle.iiod_commands.specs.Seat.{SeatRecord};
 ghost use Rattle.iiod_session.specs.Session.{IsFresh};
 ghost use Rattle.iiod_session.specs.Watch.{Hears, scene_of, waits_in};
@@ -96,8 +96,9 @@ impl<S> Session<S> {
         requires { IsClient I.seen (I.front (I.kept iio.old)) self.old.client }
         ensures kept { I.kept iio.new ≡ I.kept iio.old }
         ensures client { IsClient I.seen (I.front (I.kept iio.new)) self.new.client }
-        ensures feeds { IfOk result (Feeds self.old.manner (I.front (I.kept iio.old)) (state_of I.seen (I.told iio.old) self.old.client)
-            (scan_on self.old.stream bytes.now) out.old.items out.new.items (state_of I.seen (I.told iio.new) self.new.client) self.new.stream) }
+        ensures feeds { IfOk result (Feeds self.old.manner (I.front (I.kept iio.old))
+            (feeding (state_of I.seen (I.told iio.old) self.old.client) (scan_on self.old.stream bytes.now) out.old.items)
+            (feeding (state_of I.seen (I.told iio.new) self.new.client) self.new.stream out.new.items)) }
         ensures all { IfOk result (λ going. going ≡ Going.On → self.new.stream.items ≡ []) }
         ensures manner { self.new.manner ≡ self.old.manner }
         ensures gone { OnErr result ((self.new.client.held.items ≡ []) × (self.new.client.holdings.items ≡ []) × (self.new.stream ≡ no_item AtEnd)) }
@@ -122,12 +123,13 @@ impl<S> Session<S> {
         requires { IsClient I.seen (I.front (I.kept iio.old)) self.old.client }
         ensures kept { I.kept iio.new ≡ I.kept iio.old }
         ensures client { IsClient I.seen (I.front (I.kept iio.new)) self.new.client }
-        ensures feeds { IfOk result (Feeds self.old.manner (I.front (I.kept iio.old)) (state_of I.seen (I.told iio.old) self.old.client)
-            (scan_on self.old.stream bytes.now) out.old.items out.new.items (state_of I.seen (I.told iio.new) self.new.client) self.new.stream) }
+        ensures feeds { IfOk result (Feeds self.old.manner (I.front (I.kept iio.old))
+            (feeding (state_of I.seen (I.told iio.old) self.old.client) (scan_on self.old.stream bytes.now) out.old.items)
+            (feeding (state_of I.seen (I.told iio.new) self.new.client) self.new.stream out.new.items)) }
         ensures watched { IfOk result (Hears W.makes self.old.manner (I.front (I.kept iio.old))
-            (scene_of I.seen (I.told iio.old) self.old.client watch.old (waits_in self.old.stream.items))
-            (scan_on self.old.stream bytes.now) out.old.items out.new.items
-            (scene_of I.seen (I.told iio.new) self.new.client watch.new (waits_in self.new.stream.items)) self.new.stream) }
+            (feeding (scene_of I.seen (I.told iio.old) self.old.client watch.old (waits_in self.old.stream.items)) (scan_on self.old.stream bytes.now)
+            out.old.items)
+            (feeding (scene_of I.seen (I.told iio.new) self.new.client watch.new (waits_in self.new.stream.items)) self.new.stream out.new.items)) }
         ensures all { IfOk result (λ going. going ≡ Going.On → self.new.stream.items ≡ []) }
         ensures manner { self.new.manner ≡ self.old.manner }
         ensures gone { OnErr result ((self.new.client.held.items ≡ []) × (self.new.client.holdings.items ≡ []) × (self.new.stream ≡ no_item AtEnd)) }

@@ -8,6 +8,6 @@ returns-clause-heard g c =
     c.in_ok-feed_watched.ensures.all c.in_ok-feed_watched.ensures.manner c.in_ok-feed_watched.ensures.script
 
 pub returns-clause-watches : goal.returns-clause-watches
-returns-clause-watches g c name =
-    watches g.I.Iio.seen g.W.Watch.makes _ _ _ c.args.session.now c.feed_watched.new.self _ _ name c.args.bytes.now _ _ _ c.in_ok-feed_watched.ensures.watched
+returns-clause-watches g c =
+    watches g.I.Iio.seen g.W.Watch.makes _ _ _ c.args.session.now c.feed_watched.new.self _ _ c.args.bytes.now _ _ _ c.in_ok-feed_watched.ensures.watched
     c.in_ok-feed_watched.ensures.all

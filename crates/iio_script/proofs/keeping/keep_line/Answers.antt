@@ -5,6 +5,7 @@ use Rattle.iio_history.specs.Script.{keeps_names, step_of}
 use Rattle.iio_system.specs.declared.step.Step.{Step}
 use Rattle.iio_system.specs.Standing.{names_by}
 use Rattle.iio_system.specs.Step.{cost_of, step_view}
+use Rattle.iio_script.specs.Plays.{progress_of}
 use Rattle.iio_script.proofs.CostLemmas.{cost_of_line}
 use Rattle.iio_script.proofs.KeepLaws.{keeps_more, keeps_over, keeps_past, keeps_wrong}
 use Rattle.iio_script.proofs.OutlineLemmas.{same_step}
@@ -13,15 +14,14 @@ use Rattle.iio_script.proofs.keeping.keep_line.Goals as goal
 pub returns-in-Err-Why-clause-keeps : goal.returns-in-Err-Why-clause-keeps
 returns-in-Err-Why-clause-keeps g c = λ s first given finds keeps ending lines.
     let said = subst (λ (e : LineFault). Tells e (step_of c.args.names.now c.args.line.now)) c.in-Err-Why.field-0-is c.in-Err-Why.ensures.err in
-    keeps_wrong _ s c.args.watched.now c.args.system.now c.args.offence.now c.args.text.now.items first c.args.number given c.args.line.now lines
-    c.in-Err-Why.why ending
+    keeps_wrong _ s c.args.watched.now c.args.system.now _ _ c.args.line.now lines c.in-Err-Why.why ending
     (sym (same_step c.args.names.now s.desc c.args.line.now finds) ∙ said) keeps
 
 pub returns-in_default-clause-keeps : goal.returns-in_default-clause-keeps
 returns-in_default-clause-keeps g c = λ s first given finds keeps.
     let said : step_of c.args.names.now c.args.line.now ≡ Ok None =
     c.in-Ok.ensures.ok ∙ ap (λ (o : Option Step). Ok (option_map step_view o)) c.in_default.is in
-    keeps_past _ s c.args.watched.now c.args.system.now c.args.offence.now c.args.text.now.items first c.args.number given c.args.line.now
+    keeps_past _ s c.args.watched.now c.args.system.now _ _ c.args.line.now
     (sym (same_step c.args.names.now s.desc c.args.line.now finds) ∙ said) keeps
 
 pub returns-then-not-takes-clause-keeps : goal.returns-then-not-takes-clause-keeps
@@ -29,8 +29,7 @@ returns-then-not-takes-clause-keeps g c = λ s first given finds keeps ending li
     let over : keeps_names (names_by c.args.system.now) (Some (step_view c.in-Some.step)) ≡ false = sym c.takes.ensures ∙ c.if-not-takes.true in
     let said : step_of c.args.names.now c.args.line.now ≡ Ok (Some (step_view c.in-Some.step)) =
     c.in-Ok.ensures.ok ∙ ap (λ (o : Option Step). Ok (option_map step_view o)) c.in-Some.is in
-    keeps_over _ s c.args.watched.now c.args.system.now c.args.offence.now c.args.text.now.items first c.args.number given c.args.line.now lines
-    (step_view c.in-Some.step) ending
+    keeps_over _ s c.args.watched.now c.args.system.now _ _ c.args.line.now lines (step_view c.in-Some.step) ending
     (sym (same_step c.args.names.now s.desc c.args.line.now finds) ∙ said) over keeps
 
 pub keep_step-requires-clause-few : goal.keep_step-requires-clause-few
@@ -52,7 +51,7 @@ returns-clause-keeps g c = λ s first given finds keeps.
     let room : keeps_names (names_by c.args.system.now) (Some (step_view c.in-Some.step)) ≡ true = sym c.takes.ensures ∙ c.if-not-takes.false in
     let said : step_of c.args.names.now c.args.line.now ≡ Ok (Some (step_view c.in-Some.step)) =
     c.in-Ok.ensures.ok ∙ ap (λ (o : Option Step). Ok (option_map step_view o)) c.in-Some.is in
-    keeps_more _ s c.args.watched.now c.args.system.now c.keep_step.new.system c.args.offence.now c.keep_step.new.offence c.args.text.now.items
-    c.keep_step.new.text.items first c.args.number given c.args.line.now (step_view c.in-Some.step)
+    keeps_more _ s c.args.watched.now c.args.system.now c.keep_step.new.system _ _ (progress_of first c.args.number given) c.args.line.now
+    (step_view c.in-Some.step)
     (sym (same_step c.args.names.now s.desc c.args.line.now finds) ∙ said) room (λ h stands neutral. c.in_ok-keep_step.ensures.keeps s h stands neutral)
     c.in_ok-keep_step.ensures.names keeps

@@ -22,90 +22,88 @@ loop-room-init g c = record {
 pub returns-in-Ok-Long-clause-keeps : goal.returns-in-Ok-Long-clause-keeps
 returns-in-Ok-Long-clause-keeps g c = λ s input front more stands finds follows looked.
     let so =
-    so_far_found _ s c.args.watched.now c.loop-room.system c.loop-room.offence c.loop-room.text.items c.args.first c.loop-room.number c.args.lines.now
-    c.loop-room.lines c.find.new.self (g.S.Source.left c.args.input.now) (g.S.Source.left c.loop-room.input) (g.S.Source.left c.find.new.source)
+    so_far_found _ s c.args.watched.now c.loop-room.system _ c.args.first c.loop-room.number c.args.lines.now c.loop-room.lines c.find.new.self
+    (g.S.Source.left c.args.input.now) (g.S.Source.left c.loop-room.input) (g.S.Source.left c.find.new.source)
     c.find.ensures.follows (c.loop-room.invariant.keeps s stands finds) in (
-      kept_long _ s c.args.watched.now c.loop-room.system c.loop-room.offence c.loop-room.text.items c.args.first c.loop-room.number c.args.lines.now
-          c.find.new.self (g.S.Source.left c.args.input.now) (g.S.Source.left c.find.new.source) front more input c.find.ensures.hand
+      kept_long _ s c.args.watched.now c.loop-room.system _ c.args.first c.loop-room.number c.args.lines.now c.find.new.self
+          (g.S.Source.left c.args.input.now) (g.S.Source.left c.find.new.source) front more input c.find.ensures.hand
           (rw c.in-Ok-Long.field-0-is at c.in-Ok-Long.ensures.found) follows looked so,
-      takes_so _ s c.args.watched.now c.loop-room.system c.loop-room.offence c.loop-room.text.items c.args.first c.loop-room.number c.args.lines.now
-          c.find.new.self (g.S.Source.left c.args.input.now) (g.S.Source.left c.find.new.source) front input c.find.ensures.hand follows so,
+      takes_so _ s c.args.watched.now c.loop-room.system _ c.args.first c.loop-room.number c.args.lines.now c.find.new.self
+          (g.S.Source.left c.args.input.now) (g.S.Source.left c.find.new.source) front input c.find.ensures.hand follows so,
     )
 
 pub returns-in-Ok-End-clause-keeps : goal.returns-in-Ok-End-clause-keeps
 returns-in-Ok-End-clause-keeps g c = λ s input front more stands finds follows looked.
     let so =
-    so_far_found _ s c.args.watched.now c.loop-room.system c.loop-room.offence c.loop-room.text.items c.args.first c.loop-room.number c.args.lines.now
-    c.loop-room.lines c.find.new.self (g.S.Source.left c.args.input.now) (g.S.Source.left c.loop-room.input) (g.S.Source.left c.find.new.source)
+    so_far_found _ s c.args.watched.now c.loop-room.system _ c.args.first c.loop-room.number c.args.lines.now c.loop-room.lines c.find.new.self
+    (g.S.Source.left c.args.input.now) (g.S.Source.left c.loop-room.input) (g.S.Source.left c.find.new.source)
     c.find.ensures.follows (c.loop-room.invariant.keeps s stands finds) in (
       rw c.end_of_lines.ensures
-          (kept_done _ c.solo_law.ensures.on s c.args.watched.now c.loop-room.system c.loop-room.offence c.loop-room.text.items c.args.first c.loop-room.number
-          c.args.lines.now c.find.new.self (g.S.Source.left c.args.input.now) (g.S.Source.left c.find.new.source) front more input c.find.ensures.hand
+          (kept_done _ c.solo_law.ensures.on s c.args.watched.now c.loop-room.system _ c.args.first c.loop-room.number c.args.lines.now c.find.new.self
+          (g.S.Source.left c.args.input.now) (g.S.Source.left c.find.new.source) front more input c.find.ensures.hand
           (rw c.in-Ok-End.field-0-is at c.in-Ok-End.ensures.found) follows looked so),
-      takes_so _ s c.args.watched.now c.loop-room.system c.loop-room.offence c.loop-room.text.items c.args.first c.loop-room.number c.args.lines.now
-          c.find.new.self (g.S.Source.left c.args.input.now) (g.S.Source.left c.find.new.source) front input c.find.ensures.hand follows so,
+      takes_so _ s c.args.watched.now c.loop-room.system _ c.args.first c.loop-room.number c.args.lines.now c.find.new.self
+          (g.S.Source.left c.args.input.now) (g.S.Source.left c.find.new.source) front input c.find.ensures.hand follows so,
     )
 
 pub returns-in-Ok-Cut-clause-keeps : goal.returns-in-Ok-Cut-clause-keeps
 returns-in-Ok-Cut-clause-keeps g c = λ s input front more stands finds follows looked.
     let so =
-    so_far_found _ s c.args.watched.now c.loop-room.system c.loop-room.offence c.loop-room.text.items c.args.first c.loop-room.number c.args.lines.now
-    c.loop-room.lines c.find.new.self (g.S.Source.left c.args.input.now) (g.S.Source.left c.loop-room.input) (g.S.Source.left c.find.new.source)
+    so_far_found _ s c.args.watched.now c.loop-room.system _ c.args.first c.loop-room.number c.args.lines.now c.loop-room.lines c.find.new.self
+    (g.S.Source.left c.args.input.now) (g.S.Source.left c.loop-room.input) (g.S.Source.left c.find.new.source)
     c.find.ensures.follows (c.loop-room.invariant.keeps s stands finds) in (
-      kept_cut _ s c.args.watched.now c.loop-room.system c.loop-room.offence c.loop-room.text.items c.args.first c.loop-room.number c.args.lines.now
-          c.find.new.self (g.S.Source.left c.args.input.now) (g.S.Source.left c.find.new.source) front more input c.find.ensures.hand
+      kept_cut _ s c.args.watched.now c.loop-room.system _ c.args.first c.loop-room.number c.args.lines.now c.find.new.self
+          (g.S.Source.left c.args.input.now) (g.S.Source.left c.find.new.source) front more input c.find.ensures.hand
           (rw c.in-Ok-Cut.field-0-is at c.in-Ok-Cut.ensures.found) follows looked so,
-      takes_so _ s c.args.watched.now c.loop-room.system c.loop-room.offence c.loop-room.text.items c.args.first c.loop-room.number c.args.lines.now
-          c.find.new.self (g.S.Source.left c.args.input.now) (g.S.Source.left c.find.new.source) front input c.find.ensures.hand follows so,
+      takes_so _ s c.args.watched.now c.loop-room.system _ c.args.first c.loop-room.number c.args.lines.now c.find.new.self
+          (g.S.Source.left c.args.input.now) (g.S.Source.left c.find.new.source) front input c.find.ensures.hand follows so,
     )
 
 pub returns-in-Err-clause-keeps : goal.returns-in-Err-clause-keeps
 returns-in-Err-clause-keeps g c = λ s input front more stands finds follows looked.
     let so =
-    so_far_found _ s c.args.watched.now c.loop-room.system c.loop-room.offence c.loop-room.text.items c.args.first c.loop-room.number c.args.lines.now
-    c.loop-room.lines c.find.new.self (g.S.Source.left c.args.input.now) (g.S.Source.left c.loop-room.input) (g.S.Source.left c.find.new.source)
+    so_far_found _ s c.args.watched.now c.loop-room.system _ c.args.first c.loop-room.number c.args.lines.now c.loop-room.lines c.find.new.self
+    (g.S.Source.left c.args.input.now) (g.S.Source.left c.loop-room.input) (g.S.Source.left c.find.new.source)
     c.find.ensures.follows (c.loop-room.invariant.keeps s stands finds) in (
       tt,
-      takes_so _ s c.args.watched.now c.loop-room.system c.loop-room.offence c.loop-room.text.items c.args.first c.loop-room.number c.args.lines.now
-          c.find.new.self (g.S.Source.left c.args.input.now) (g.S.Source.left c.find.new.source) front input c.find.ensures.hand follows so,
+      takes_so _ s c.args.watched.now c.loop-room.system _ c.args.first c.loop-room.number c.args.lines.now c.find.new.self
+          (g.S.Source.left c.args.input.now) (g.S.Source.left c.find.new.source) front input c.find.ensures.hand follows so,
     )
 
 pub returns-in_default-clause-keeps : goal.returns-in_default-clause-keeps
 returns-in_default-clause-keeps g c = λ s input front more stands finds follows looked.
     let so =
-    so_far_found _ s c.args.watched.now c.loop-room.system c.loop-room.offence c.loop-room.text.items c.args.first c.loop-room.number c.args.lines.now
-    c.loop-room.lines c.find.new.self (g.S.Source.left c.args.input.now) (g.S.Source.left c.loop-room.input) (g.S.Source.left c.find.new.source)
+    so_far_found _ s c.args.watched.now c.loop-room.system _ c.args.first c.loop-room.number c.args.lines.now c.loop-room.lines c.find.new.self
+    (g.S.Source.left c.args.input.now) (g.S.Source.left c.loop-room.input) (g.S.Source.left c.find.new.source)
     c.find.ensures.follows (c.loop-room.invariant.keeps s stands finds) in (
       tt,
-      takes_so _ s c.args.watched.now c.loop-room.system c.loop-room.offence c.loop-room.text.items c.args.first c.loop-room.number c.args.lines.now
-          c.find.new.self (g.S.Source.left c.args.input.now) (g.S.Source.left c.find.new.source) front input c.find.ensures.hand follows so,
+      takes_so _ s c.args.watched.now c.loop-room.system _ c.args.first c.loop-room.number c.args.lines.now c.find.new.self
+          (g.S.Source.left c.args.input.now) (g.S.Source.left c.find.new.source) front input c.find.ensures.hand follows so,
     )
 
 pub returns-in-Some-clause-keeps : goal.returns-in-Some-clause-keeps
 returns-in-Some-clause-keeps g c = λ s input front more stands finds follows looked.
     let so =
-    so_far_found _ s c.args.watched.now c.loop-room.system c.loop-room.offence c.loop-room.text.items c.args.first c.loop-room.number c.args.lines.now
-    c.loop-room.lines c.find.new.self (g.S.Source.left c.args.input.now) (g.S.Source.left c.loop-room.input) (g.S.Source.left c.find.new.source)
+    so_far_found _ s c.args.watched.now c.loop-room.system _ c.args.first c.loop-room.number c.args.lines.now c.loop-room.lines c.find.new.self
+    (g.S.Source.left c.args.input.now) (g.S.Source.left c.loop-room.input) (g.S.Source.left c.find.new.source)
     c.find.ensures.follows (c.loop-room.invariant.keeps s stands finds) in (
-      kept_refused _ s c.args.watched.now c.loop-room.system c.loop-room.offence c.loop-room.text.items c.line.result.now c.args.first c.loop-room.number
-          c.args.lines.now c.find.new.self (g.S.Source.left c.args.input.now) (g.S.Source.left c.find.new.source) front more input c.in-Some.why
-          c.find.ensures.hand
+      kept_refused _ s c.args.watched.now c.loop-room.system _ c.line.result.now c.args.first c.loop-room.number c.args.lines.now c.find.new.self
+          (g.S.Source.left c.args.input.now) (g.S.Source.left c.find.new.source) front more input c.in-Some.why c.find.ensures.hand
           (rw c.in-Ok-Line.field-0-is at c.in-Ok-Line.ensures.found) follows looked c.line.ensures so
           (rw c.in-Some.is at c.in-Ok.ensures.keeps s c.args.first so.given finds so.keeps),
-      takes_so _ s c.args.watched.now c.loop-room.system c.loop-room.offence c.loop-room.text.items c.args.first c.loop-room.number c.args.lines.now
-          c.find.new.self (g.S.Source.left c.args.input.now) (g.S.Source.left c.find.new.source) front input c.find.ensures.hand follows so,
+      takes_so _ s c.args.watched.now c.loop-room.system _ c.args.first c.loop-room.number c.args.lines.now c.find.new.self
+          (g.S.Source.left c.args.input.now) (g.S.Source.left c.find.new.source) front input c.find.ensures.hand follows so,
     )
 
 pub loop-room-preserved : goal.loop-room-preserved
 loop-room-preserved g c = record {
   keeps = λ s stands finds.
       let so =
-      so_far_found _ s c.args.watched.now c.loop-room.system c.loop-room.offence c.loop-room.text.items c.args.first c.loop-room.number c.args.lines.now
-      c.loop-room.lines c.find.new.self (g.S.Source.left c.args.input.now) (g.S.Source.left c.loop-room.input) (g.S.Source.left c.find.new.source)
+      so_far_found _ s c.args.watched.now c.loop-room.system _ c.args.first c.loop-room.number c.args.lines.now c.loop-room.lines c.find.new.self
+      (g.S.Source.left c.args.input.now) (g.S.Source.left c.loop-room.input) (g.S.Source.left c.find.new.source)
       c.find.ensures.follows (c.loop-room.invariant.keeps s stands finds) in
-      so_far_played _ s c.args.watched.now c.loop-room.system c.keep_line.new.system c.loop-room.offence c.keep_line.new.offence c.loop-room.text.items
-      c.keep_line.new.text.items c.line.result.now c.args.first c.loop-room.number c.args.lines.now c.find.new.self c.pass.new.self
-      (g.S.Source.left c.args.input.now) (g.S.Source.left c.find.new.source)
+      so_far_played _ s c.args.watched.now c.loop-room.system c.keep_line.new.system _ _ c.line.result.now c.args.first c.loop-room.number c.args.lines.now
+      c.find.new.self c.pass.new.self (g.S.Source.left c.args.input.now) (g.S.Source.left c.find.new.source)
       c.pass.ensures.follows c.line.ensures so (rw c.in_default-refused.is at c.in-Ok.ensures.keeps s c.args.first so.given finds so.keeps);
   hand = c.pass.ensures.hand;
   front = c.keep_line.ensures.front ∙ c.loop-room.invariant.front;

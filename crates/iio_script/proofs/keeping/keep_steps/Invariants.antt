@@ -3,6 +3,7 @@ use Rattle.iio_device.specs.Plug.{driver_of}
 use Rattle.iio_history.specs.Registry.{Setup}
 use Rattle.iio_bench.specs.Bench.{front_of}
 use Rattle.iio_system.specs.Standing.{StandsFor}
+use Rattle.iio_script.specs.Keeps.{excerpt_of}
 use Rattle.iio_script.specs.LineReader.{IsHand}
 use Rattle.iio_script.specs.Outline.{FindsSame}
 use Rattle.iio_script.proofs.KeptLaws.{KeptSoFar}
@@ -12,8 +13,8 @@ use Rattle.iio_script.proofs.keeping.keep_steps.Given as goal
 abbrev pub invariant-loop-room : goal.invariant-loop-room
 invariant-loop-room g l = record {
   keeps : (s : Setup) → StandsFor (driver_of (λ b. (g.dyn-1.0.entry b.vtable).1.driver b.value)) s [] l.fn.system → FindsSame l.names s.desc
-      → KeptSoFar (driver_of (λ b. (g.dyn-1.0.entry b.vtable).1.driver b.value)) s l.watched l.system l.offence l.text.items l.first l.number l.fn.lines l.lines
-      (g.S.Source.left l.fn.input) (g.S.Source.left l.input);
+      → KeptSoFar (driver_of (λ b. (g.dyn-1.0.entry b.vtable).1.driver b.value)) s l.watched l.system (excerpt_of l.offence l.text.items) l.first l.number
+      l.fn.lines l.lines (g.S.Source.left l.fn.input) (g.S.Source.left l.input);
   hand : IsHand l.lines;
   front : front_of l.system.bench ≡ front_of l.fn.system.bench;
   begun : l.number ≤ l.lines.given + 1;

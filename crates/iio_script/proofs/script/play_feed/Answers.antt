@@ -19,7 +19,8 @@ returns-in-Err-Why-clause-performs g c = (
 
 pub returns-then-not-takes-clause-performs : goal.returns-then-not-takes-clause-performs
 returns-then-not-takes-clause-performs g c =
-    let over : keeps_names (names_by c.args.system.now) (Some (Feed c.in-Ok.name c.read_feed.new.bytes.items)) ≡ false = sym c.takes.ensures ∙ c.if-not-takes.true in
+    let over : keeps_names (names_by c.args.system.now) (Some (Feed c.in-Ok.name c.read_feed.new.bytes.items)) ≡ false =
+    sym c.takes.ensures ∙ c.if-not-takes.true in
     (ap (step_kept (names_by c.args.system.now)) c.in-Ok.ensures.ok ∙ rw over refl, (refl, refl))
 
 pub feed-requires-clause-few : goal.feed-requires-clause-few
@@ -34,7 +35,8 @@ returns-clause-used g c =
 
 pub returns-clause-performs : goal.returns-clause-performs
 returns-clause-performs g c =
-    let kept : keeps_names (names_by c.args.system.now) (Some (Feed c.in-Ok.name c.read_feed.new.bytes.items)) ≡ true = sym c.takes.ensures ∙ c.if-not-takes.false in (
+    let kept : keeps_names (names_by c.args.system.now) (Some (Feed c.in-Ok.name c.read_feed.new.bytes.items)) ≡ true =
+    sym c.takes.ensures ∙ c.if-not-takes.false in (
       Feed c.in-Ok.name c.read_feed.new.bytes.items,
       (ap (step_kept (names_by c.args.system.now)) c.in-Ok.ensures.ok ∙ rw kept refl, rw c.deref.ensures.value at c.in_ok-feed.ensures.performed),
     )

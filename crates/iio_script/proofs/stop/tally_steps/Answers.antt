@@ -2,6 +2,7 @@ use Rattle.std.proofs.Common.{[], Ok, ap, ◌∙◌}
 use Rattle.iio_history.specs.Input.{is_overlong}
 use Rattle.iio_history.specs.Outcome.{last_ending}
 use Rattle.iio_history.specs.Script.{script_from}
+use Rattle.iio_script.specs.Plays.{start_of}
 use Rattle.iio_script.proofs.TallyLaws.{script_done, script_refused, without_drivers}
 use Rattle.iio_script.proofs.stop.tally_steps.Goals as goal
 
@@ -12,7 +13,7 @@ returns-in-Ok-Done g c = λ text front more follows starts looked.
     let run =
     rw c.in-Ok-Done.field-0-is at
     (c.in-Ok-Done.ensures.played (record { desc = c.args.desc; drivers = [] }) text front more stands c.in-Ok.ensures follows starts looked) in (
-      script_done (record { desc = c.args.desc; drivers = [] }) c.args.first front
+      script_done (start_of (record { desc = c.args.desc; drivers = [] }) c.args.first front)
           (script_from c.args.desc (last_ending (is_overlong text)) [] c.args.first more) text run.0 _ _ run.2,
       c.tally.ensures (record { desc = c.args.desc; drivers = [] }) _
           (c.play_steps.ensures.stands is (record { desc = c.args.desc; drivers = [] }) text front more stands c.in-Ok.ensures follows looked),
@@ -24,5 +25,5 @@ returns-in-Ok-Refused g c = λ text front more follows starts looked.
     let run =
     rw c.in-Ok-Refused.field-0-is at
     (c.in-Ok-Refused.ensures.played (record { desc = c.args.desc; drivers = [] }) text front more stands c.in-Ok.ensures follows starts looked) in
-    script_refused (record { desc = c.args.desc; drivers = [] }) c.args.first front
+    script_refused (start_of (record { desc = c.args.desc; drivers = [] }) c.args.first front)
     (script_from c.args.desc (last_ending (is_overlong text)) [] c.args.first more) c.in-Ok-Refused.line c.in-Ok-Refused.why text run.0 _ _ run.2

@@ -17,8 +17,8 @@ returns-clause-names g c =
 
 pub returns-clause-makes : goal.returns-clause-makes
 returns-clause-makes g c =
-    feeds_there _ c.args.bench.now c.feed_unwatched.new.bench c.args.connections.now.items c.in-Some.at c.index_mut.result.now c.feed_unwatched.new.connection c.args.name.now
-    c.args.bytes.now _ _ c.feed_unwatched.result
+    feeds_there _ c.args.bench.now c.feed_unwatched.new.bench c.args.connections.now.items c.in-Some.at c.index_mut.result.now
+    c.feed_unwatched.new.connection c.args.name.now c.args.bytes.now _ _ c.feed_unwatched.result
     (rw (c.in-Some.is, c.deref.ensures.value) at c.place_near.ensures) c.index_mut.ensures.value c.feed_unwatched.ensures.name c.feed_unwatched.ensures.kept
     c.feed_unwatched.ensures.client
     c.feed_unwatched.ensures.fed

@@ -28,8 +28,8 @@ returns-clause-makes g c =
     let items : c.push_reserved.new.self.items ≡ c.args.connections.now.items ++ c.feed_unwatched-fed.new.connection ∷ [] = search rules in
     let many : c.len.result ≡ length c.args.connections.now.items = search rules in
     rw items
-    (feeds_new _ c.args.bench.now c.feed_unwatched-fed.new.bench c.args.connections.now.items c.in_ok-connection.connection c.feed_unwatched-fed.new.connection c.args.name.now
-    c.args.bytes.now _ _ c.feed_unwatched-fed.result
+    (feeds_new _ c.args.bench.now c.feed_unwatched-fed.new.bench c.args.connections.now.items c.in_ok-connection.connection
+    c.feed_unwatched-fed.new.connection c.args.name.now c.args.bytes.now _ _ c.feed_unwatched-fed.result
     (sym c.requires.absent) (subst (λ (n : ℕ). IsNew c.args.name.now n c.in_ok-connection.connection) many c.in_ok-connection.ensures)
     c.feed_unwatched-fed.ensures.name c.feed_unwatched-fed.ensures.kept c.feed_unwatched-fed.ensures.client c.feed_unwatched-fed.ensures.fed)
 

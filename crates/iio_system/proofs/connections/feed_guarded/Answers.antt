@@ -44,7 +44,8 @@ returns-clause-meets g c =
     stands_at _ _ _ c.split_at_mut-before.result.1.now _ _ c.in-Some.at (search rules) c.in-Some-split_first_mut.ensures.cases.0
     c.split_at_mut-before.ensures.front_len
     (rw (c.in-Some.is, c.deref.ensures.value) at c.place.ensures) in
-    meets_between _ c.stance_law.ensures.clients c.args.bench.now _ _ _ _ c.args.watched.now c.args.name.now c.args.bytes.now c.feed_beside.result at
+    meets_between _ c.stance_law.ensures.clients c.args.bench.now _ _ _ _ c.args.watched.now c.args.name.now c.args.bytes.now
+    c.args.out.now.items c.feed_beside.result at
     c.feed_beside.ensures.meets
 
 pub returns-clause-apart : goal.returns-clause-apart

@@ -39,7 +39,7 @@ returns-clause-meets g c =
     let many : c.len.result ≡ length c.args.connections.now.items = search rules in
     let others : c.deref.result.now ++ [] ≡ c.args.connections.now.items = append-nil c.deref.result.now ∙ search rules in
     meets_new _ c.stance_law.ensures.clients c.args.bench.now c.args.connections.now.items c.in_ok-connection.connection c.args.watched.now c.args.name.now
-    c.args.bytes.now c.feed_beside-fed.result
+    c.args.bytes.now c.args.out.now.items c.feed_beside-fed.result
     c.requires.absent (subst (λ (n : ℕ). IsNew c.args.name.now n c.in_ok-connection.connection) many c.in_ok-connection.ensures)
     (rw others at c.feed_beside-fed.ensures.meets)
 

@@ -13,8 +13,8 @@ returns-in-Missed-clause-makes g c =
     let told = rw (to_z-of_z w64 c.args.t c.ranges.t) at c.poll-polled.ensures.told in
     λ cs s m h. fire_missed (driver_of (λ b. (g.dyn-1.0.entry b.vtable).1.driver b.value)) c.args.trigger c.args.t c.args.bench.now c.poll-polled.new.self cs
     c.poll-polled.ensures.front told s m h
-    c.args.out.now.items c.push_poll.new.out.items c.name_of_trigger.result.now c.poll-polled.result c.in-Missed.field-0 c.in-Missed.is c.name_of_trigger.ensures
-    (rw (to_z-of_z w64 c.args.t c.ranges.t) at c.poll-polled.ensures.answer) c.in_ok-push_poll.ensures
+    c.args.out.now.items c.push_poll.new.out.items c.name_of_trigger.result.now c.poll-polled.result c.in-Missed.field-0 c.in-Missed.is
+    c.name_of_trigger.ensures (rw (to_z-of_z w64 c.args.t c.ranges.t) at c.poll-polled.ensures.answer) c.in_ok-push_poll.ensures
 
 pub returns-in-Accepted-clause-makes : goal.returns-in-Accepted-clause-makes
 returns-in-Accepted-clause-makes g c =

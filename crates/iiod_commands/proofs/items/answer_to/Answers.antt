@@ -3,16 +3,16 @@ use Rattle.iiod_commands.proofs.AnswerLaws.{help_serves, print_serves, timeout_s
 use Rattle.iiod_commands.proofs.items.answer_to.Goals as goal
 
 pub returns-in-Help-clause-served : goal.returns-in-Help-clause-served
-returns-in-Help-clause-served g c = rw c.in-Help.is (help_serves _ _ _ _)
+returns-in-Help-clause-served g c = rw c.in-Help.is (help_serves _ _)
 
 pub returns-in-Version-clause-served : goal.returns-in-Version-clause-served
-returns-in-Version-clause-served g c = rw c.in-Version.is (version_serves _ _ _ _)
+returns-in-Version-clause-served g c = rw c.in-Version.is (version_serves _ _)
 
 pub returns-in-Print-clause-served : goal.returns-in-Print-clause-served
-returns-in-Print-clause-served g c = rw c.in-Print.is (print_serves _ _ _ _)
+returns-in-Print-clause-served g c = rw c.in-Print.is (print_serves _ _)
 
 pub returns-in-Timeout-clause-served : goal.returns-in-Timeout-clause-served
-returns-in-Timeout-clause-served g c = rw c.in-Timeout.is (timeout_serves _ _ _ _ _)
+returns-in-Timeout-clause-served g c = rw c.in-Timeout.is (timeout_serves _ _ _)
 
 pub returns-in-Exit-clause-served : goal.returns-in-Exit-clause-served
 returns-in-Exit-clause-served g c = elim c.in-Exit.is [

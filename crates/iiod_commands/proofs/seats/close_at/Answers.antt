@@ -25,5 +25,5 @@ returns-clause-told g c =
 pub returns-clause-moves : goal.returns-clause-moves
 returns-clause-moves g c =
     let at = c.place.ensures.place g.I.Iio.seen in
-    leaves g.I.Iio.seen (client_of g.I.Iio.seen c.args.client.now) c.args.dev c.in-Some.i c.args.client.now.held.items _ (search (rules, at))
+    leaves g.I.Iio.seen _ _ (client_of g.I.Iio.seen c.args.client.now) c.args.dev c.in-Some.i c.args.client.now.held.items _ (search (rules, at))
     c.remove.ensures.items

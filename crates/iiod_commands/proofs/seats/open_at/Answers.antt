@@ -16,14 +16,15 @@ returns-in_err-wanted-clause-told g c =
 
 pub returns-clause-told : goal.returns-clause-told
 returns-clause-told g c =
+    let at = c.place.ensures.place g.I.Iio.seen in
     opens _ _ _ (client_of g.I.Iio.seen c.args.client.now) _ c.args.dev c.args.samples c.args.text.now c.args.cyclic c.is_some-is_open.result
     c.plugged-plugged.result c.shape.result.now
-    c.buffers_of-buffers.result c.in_ok-wanted.wanted _ (search rules) c.plugged-plugged.ensures c.shape.ensures (search rules)
+    c.buffers_of-buffers.result c.in_ok-wanted.wanted _ (search (rules, at)) c.plugged-plugged.ensures c.shape.ensures (search rules)
     (c.in_ok-wanted.ensures.value (kind_at _ c.args.dev) c.is_output.ensures) c.join.ensures.told
 
 pub returns-clause-moves : goal.returns-clause-moves
 returns-clause-moves g c =
-    opens_by _ _ c.args.samples c.args.text.now c.args.cyclic (client_of g.I.Iio.seen c.args.client.now) _ _ _ c.shape.result.now c.buffers_of-buffers.result _
+    opens_by _ _ c.args.samples c.args.text.now c.args.cyclic _ _ c.shape.result.now c.buffers_of-buffers.result _
     c.join.result
     c.shape.ensures (search rules) (c.in_ok-wanted.ensures.wanted (kind_at _ c.args.dev) c.is_output.ensures) c.join.ensures.moves
 

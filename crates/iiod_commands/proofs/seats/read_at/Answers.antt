@@ -9,7 +9,7 @@ use Rattle.iiod_commands.proofs.SeatsLaws.{apart_set, dev_is, map_set_same, read
 use Rattle.iiod_commands.proofs.seats.read_at.Goals as goal
 
 pub returns-in_ok-push_refusal-in-None-clause-read : goal.returns-in_ok-push_refusal-in-None-clause-read
-returns-in_ok-push_refusal-in-None-clause-read g c = (Refusal EBADF, search rules, tt, read_nowhere _ _ _ _ _ _ (search rules))
+returns-in_ok-push_refusal-in-None-clause-read g c = (Refusal EBADF, search rules, tt, read_nowhere _ _ _ _ (search rules))
 
 pub returns-in-Some-clause-client : goal.returns-in-Some-clause-client
 returns-in-Some-clause-client g c = record {
@@ -30,7 +30,7 @@ returns-in-Some-clause-same g c =
 
 pub returns-in-Some-clause-read : goal.returns-in-Some-clause-read
 returns-in-Some-clause-read g c =
-    reads_at g.I.Iio.seen _ c.args.dev _ c.in-Some.i _ _ (client_of g.I.Iio.seen c.args.client.now) c.args.client.now.held.items c.index_mut.result.now
+    reads_at g.I.Iio.seen _ c.args.dev _ c.in-Some.i _ _ (client_of g.I.Iio.seen c.args.client.now) _ c.args.client.now.held.items c.index_mut.result.now
     c.read_held.new.h _ _ _
     (search rules) (search rules) c.index_mut.ensures.value c.read_held.ensures.read
 

@@ -30,7 +30,7 @@ returns-clause-told g c =
 pub returns-clause-moves : goal.returns-clause-moves
 returns-clause-moves g c =
     let at = c.place.ensures.place g.I.Iio.seen in
-    remasks_by g.I.Iio.seen _ (client_of g.I.Iio.seen c.args.client.now) c.args.dev c.in-Some.i _ c.args.client.now.held.items c.index_mut.result.now
+    remasks_by g.I.Iio.seen _ _ _ (client_of g.I.Iio.seen c.args.client.now) c.args.dev c.in-Some.i _ c.args.client.now.held.items c.index_mut.result.now
     c.remask_held.new.h c.remask_held.result
     (search (rules, at)) (search rules) c.index_mut.ensures.value c.remask_held.ensures.moves
 

@@ -3,7 +3,8 @@ use Rattle.std.proofs.lemmas.List.{length-map}
 use Rattle.iio_history.specs.Outcome.{outcome_of}
 use Rattle.iio_worlds.specs.Solo.{AreAlike, IsRefusedBeside, solo_outcome_of}
 use Rattle.iio_gen.specs.Summary.{EndsGen, summarized}
-use Rattle.iiod_program.specs.Does.{PrintsLayout}
+use Rattle.iio_script.specs.Ends.{views_of}
+use Rattle.iiod_program.specs.Does.{PrintsLayout, streams_of}
 use Rattle.iiod_program.specs.Layout.{layout_of}
 use Rattle.iiod_program.specs.Request.{Play, Solo, Layout, Gen, Asks}
 use Rattle.iiod_program.specs.View.{request_view}
@@ -12,8 +13,8 @@ use Rattle.iiod_program.proofs.command.run.Goals as goal
 
 pub returns-in-Play-clause-does : goal.returns-in-Play-clause-does
 returns-in-Play-clause-does g c =
-    does_asked g.S.Source.left g.S.Source.faults g.K.Sink.written g.K.Sink.faults c.args.words.now Play _ c.play.result c.args.input.now c.play.new.input
-    c.args.output.now c.play.new.output
+    does_asked (views_of g.S.Source.left g.S.Source.faults g.K.Sink.written g.K.Sink.faults) c.args.words.now Play _ c.play.result
+    (streams_of c.args.input.now c.args.output.now) (streams_of c.play.new.input c.play.new.output)
     (subst (λ r. Asks c.args.words.now (request_view r)) c.in-Play.is c.request_of.ensures) (record {
       transcript = c.play.ensures.transcript;
       complete =
@@ -29,8 +30,8 @@ returns-in-Play-clause-does g c =
 
 pub returns-in-Solo-clause-does : goal.returns-in-Solo-clause-does
 returns-in-Solo-clause-does g c =
-    does_asked g.S.Source.left g.S.Source.faults g.K.Sink.written g.K.Sink.faults c.args.words.now (Solo c.in-Solo.name.now) _ c.solo.result c.args.input.now
-    c.solo.new.input c.args.output.now c.solo.new.output
+    does_asked (views_of g.S.Source.left g.S.Source.faults g.K.Sink.written g.K.Sink.faults) c.args.words.now (Solo c.in-Solo.name.now) _ c.solo.result
+    (streams_of c.args.input.now c.args.output.now) (streams_of c.solo.new.input c.solo.new.output)
     (subst (λ r. Asks c.args.words.now (request_view r)) c.in-Solo.is c.request_of.ensures) (record {
       alike = each_input (λ xs. AreAlike c.in-Solo.name.now _ xs) (g.S.Source.left c.args.input.now) (λ xs. c.solo_law.ensures.alike c.in-Solo.name.now _ xs);
       beside =
@@ -48,8 +49,8 @@ returns-in-Solo-clause-does g c =
 
 pub returns-in-Gen-clause-does : goal.returns-in-Gen-clause-does
 returns-in-Gen-clause-does g c =
-    does_asked g.S.Source.left g.S.Source.faults g.K.Sink.written g.K.Sink.faults c.args.words.now (Gen c.in-Gen.n) _ c.gen_.result c.args.input.now
-    c.args.input.now c.args.output.now c.gen_.new.output
+    does_asked (views_of g.S.Source.left g.S.Source.faults g.K.Sink.written g.K.Sink.faults) c.args.words.now (Gen c.in-Gen.n) _ c.gen_.result
+    (streams_of c.args.input.now c.args.output.now) (streams_of c.args.input.now c.gen_.new.output)
     (subst (λ r. Asks c.args.words.now (request_view r)) c.in-Gen.is c.request_of.ensures) (record {
       lines = c.gen_.ensures.lines;
       complete =
@@ -63,11 +64,12 @@ returns-in-Gen-clause-does g c =
 pub returns-in-Ok-clause-does : goal.returns-in-Ok-clause-does
 returns-in-Ok-clause-does g c =
     let many : c.in-Ok.count ≡ length c.args.drivers.items = c.in-Ok.ensures.1 ∙ c.len.ensures ∙ c.args.drivers.ok.0 in
-    does_asked g.S.Source.left g.S.Source.faults g.K.Sink.written g.K.Sink.faults c.args.words.now (Layout c.in-Layout.device.now c.in-Layout.mask.now) _
-    c.layout.result c.args.input.now c.layout.new.input c.args.output.now c.layout.new.output
+    does_asked (views_of g.S.Source.left g.S.Source.faults g.K.Sink.written g.K.Sink.faults) c.args.words.now
+    (Layout c.in-Layout.device.now c.in-Layout.mask.now) _
+    c.layout.result (streams_of c.args.input.now c.args.output.now) (streams_of c.layout.new.input c.layout.new.output)
     (subst (λ r. Asks c.args.words.now (request_view r)) c.in-Layout.is c.request_of.ensures)
-    (subst (λ (n : ℕ). PrintsLayout g.S.Source.left g.S.Source.faults g.K.Sink.written g.K.Sink.faults n c.in-Layout.device.now c.in-Layout.mask.now
-    c.layout.result c.args.input.now c.layout.new.input c.args.output.now c.layout.new.output)
+    (subst (λ (n : ℕ). PrintsLayout (views_of g.S.Source.left g.S.Source.faults g.K.Sink.written g.K.Sink.faults) n c.in-Layout.device.now c.in-Layout.mask.now
+    c.layout.result (streams_of c.args.input.now c.args.output.now) (streams_of c.layout.new.input c.layout.new.output))
     (many ∙ sym (length-map c.args.drivers.items _)) (record {
       lines = c.layout.ensures.lines;
       complete =

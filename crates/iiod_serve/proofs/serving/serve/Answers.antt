@@ -22,8 +22,7 @@ returns-in_default-clause-usage_line g c = λ other.
 
 pub returns-in_default-clause-faults : goal.returns-in_default-clause-faults
 returns-in_default-clause-faults g c =
-    usage_faults g.S.Source.left g.S.Source.faults g.K.Sink.written g.K.Sink.faults c.print_usage.result c.of_run.result c.args.input.now c.args.output.now
-    c.print_usage.new.output
+    usage_faults _ c.print_usage.result c.of_run.result c.args.input.now c.args.output.now c.print_usage.new.output
     c.of_run.ensures c.print_usage.ensures.status c.print_usage.ensures.write_fault c.print_usage.ensures.counted c.print_usage.ensures.silent
 
 pub returns-in_default-clause-door : goal.returns-in_default-clause-door

@@ -2,7 +2,7 @@ use Rattle.std.proofs.Common.{◌≡◌, ◌≤◌, ◌∙◌, ap, subst, None, 
 use Rattle.iio_base.specs.Faults.{Rose}
 use Rattle.iio_history.specs.Outcome.{only_ending}
 use Rattle.iio_history.specs.Script.{Finished}
-use Rattle.iio_script.specs.Ends.{HasStatus, ShowsFaults}
+use Rattle.iio_script.specs.Ends.{HasStatus, ShowsFaults, views_of}
 use Rattle.iio_script.specs.Plays.{TakesFor}
 use Rattle.iiod_serve.specs.Reading.{served_of}
 use Rattle.iiod_serve.specs.Served.{IsServed, ServesLines, as_run}
@@ -72,8 +72,8 @@ returns-in-Err-clause-words g c = stops_words c.in-Err.status c.of_run.result c.
 
 pub returns-in-Err-clause-faults : goal.returns-in-Err-clause-faults
 returns-in-Err-clause-faults g c =
-    as_ended (λ st. ShowsFaults g.S.Source.left g.S.Source.faults g.K.Sink.written g.K.Sink.faults st c.args.input.now c.read_description.new.input
-    c.args.output.now c.read_description.new.output)
+    as_ended (λ st. ShowsFaults (views_of g.S.Source.left g.S.Source.faults g.K.Sink.written g.K.Sink.faults) st c.args.input.now
+    c.read_description.new.input c.args.output.now c.read_description.new.output)
     c.in-Err.status c.of_run.result c.of_run.ensures c.in-Err.ensures.faults
 
 pub returns-in-Err-clause-door : goal.returns-in-Err-clause-door

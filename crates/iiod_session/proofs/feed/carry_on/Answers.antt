@@ -1,9 +1,10 @@
-use Rattle.std.proofs.Common.{rules, ◌≤◌, sym, ap, ◌∙◌, drop, length, arith, length-drop}
+use Rattle.std.proofs.Common.{refl, rules, ◌≤◌, sym, ap, ◌∙◌, drop, length, arith, length-drop}
 use Rattle.std.proofs.lemmas.List.{take_rest}
 use Rattle.iiod_grammar.specs.Scans.{scan_on}
 use Rattle.iiod_session.specs.Session.{stream_by}
 use Rattle.iiod_session.specs.declared.going.Going.TheVariants.{On}
 use Rattle.iiod_session.specs.PendingWrite.{pending_of}
+use Rattle.iiod_session.proofs.FeedLaws.{fed_none}
 use Rattle.iiod_session.proofs.HearLaws.{all_taken, more_feeds, none_after, on_fed, piece_scans, rest_after, stop_feeds}
 use Rattle.iiod_session.proofs.StreamLaws.{more_takes, more_waits}
 use Rattle.iiod_session.proofs.feed.carry_on.Goals as goal
@@ -24,6 +25,15 @@ returns-in-More-clause-all g c on = (
   rw c.feed-taken.ensures.state
       (more_waits c.loop-client.lines _ (pending_of c.loop-client.pending) c.loop-client.invariant.ready (sym c.feed-taken.ensures.ready ∙ c.in-More.is)),
 )
+
+pub loop-client-init : goal.loop-client-init
+loop-client-init g c = record {
+  kept = refl;
+  client = c.requires.client;
+  within = search rules;
+  ready = c.requires.ready;
+  fed = fed_none _;
+}
 
 pub loop-client-preserved : goal.loop-client-preserved
 loop-client-preserved g c = record {

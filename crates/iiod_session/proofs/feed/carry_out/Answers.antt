@@ -41,5 +41,5 @@ returns-else-is_empty-clause-hears g c =
 pub returns-in_default-clause-hears : goal.returns-in_default-clause-hears
 returns-in_default-clause-hears g c =
     let kept = rw c.in-Waits.is at c.requires.ready in
-    rw c.in-Waits.is (feeds_more _ _ _ _ _ _ _ _ c.args.bytes.now c.in_ok-going-in-Waits.going c.in_default.not-On
+    rw c.in-Waits.is (feeds_more _ _ _ _ c.args.bytes.now c.in_ok-going-in-Waits.going c.in_default.not-On
     (c.in_ok-going-in-Waits.ensures.hears c.args.lines.now kept.0 kept.1))

@@ -1,5 +1,6 @@
 use Rattle.std.proofs.Common.{refl}
 use Rattle.iio_device.specs.Plug.{driver_of}
+use Rattle.iio_kinds.specs.Faults.{joining_of}
 use Rattle.iio_kinds.specs.OutStation.{out_head, out_station}
 use Rattle.iio_kinds.specs.Station.{in_station}
 use Rattle.iio_kinds.proofs.AnyCalls.{joins_once, joins_output}
@@ -11,8 +12,9 @@ returns-in-Input-clause-joins g c =
     let drive = driver_of (λ b. (g.dyn-1.0.entry b.vtable).1.driver b.value) in
     let own = c.in-Input.device in
     rw c.in-Input.is
-    (joins_once c.args.mask c.args.capacity c.args.cyclic c.args.inner own.device.core.number own.device.core.roster.shape c.join.result (in_station drive own)
-    (in_station drive c.join.new.self) c.args.trigger.now c.join.new.trigger (rw c.in-Input.is at c.requires.cycles) c.join.ensures.joins)
+    (joins_once (joining_of own.device.core.number own.device.core.roster.shape c.args.mask c.args.capacity c.args.cyclic c.args.inner)
+    c.join.result (in_station drive own) (in_station drive c.join.new.self) c.args.trigger.now c.join.new.trigger (rw c.in-Input.is at c.requires.cycles)
+    c.join.ensures.joins)
 
 pub returns-in-Input-clause-keeps : goal.returns-in-Input-clause-keeps
 returns-in-Input-clause-keeps g c = rw c.in-Input.is (keeps_input _ _ c.join.ensures.keeps)
@@ -21,7 +23,7 @@ pub returns-in-Output-clause-joins : goal.returns-in-Output-clause-joins
 returns-in-Output-clause-joins g c =
     let own = c.in-Output.device in
     rw c.in-Output.is
-    (joins_output (out_head own) (out_station own) c.args.mask c.args.capacity c.args.cyclic c.args.inner own.number own.out.shape c.start.result
+    (joins_output (out_head own) (out_station own) (joining_of own.number own.out.shape c.args.mask c.args.capacity c.args.cyclic c.args.inner) c.start.result
     (out_station own) (out_station c.start.new.self) c.args.trigger.now c.start.new.trigger refl (rw c.in-Output.is at c.requires.inner) c.start.ensures.joins)
 
 pub returns-in-Output-clause-keeps : goal.returns-in-Output-clause-keeps

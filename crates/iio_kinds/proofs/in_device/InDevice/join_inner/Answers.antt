@@ -6,7 +6,7 @@ use Rattle.iio_device.specs.Plug.{driver_of}
 use Rattle.iio_device.specs.Device.{has_no_place}
 use Rattle.iio_core.specs.Calls.{newcomer}
 use Rattle.iio_kinds.specs.declared.in_device.Inner.{Inner}
-use Rattle.iio_kinds.specs.Faults.{JoinsAny}
+use Rattle.iio_kinds.specs.Faults.{JoinsAny, joining_of}
 use Rattle.iio_kinds.specs.Inner.{HasInners}
 use Rattle.iio_kinds.specs.Station.{station_by}
 use Rattle.iio_kinds.proofs.InnerLemmas.{facts_same, named, refusals_named}
@@ -116,7 +116,7 @@ returns-in-Ok-clause-joins g c =
     let items : c.push_reserved.new.self.items ≡ own.inners.items ++ record { number = seat.number; average = c.args.average } ∷ [] =
     c.push_reserved.ensures.items
     ∙ ap (λ (is : List Inner). is ++ record { number = seat.number; average = c.args.average } ∷ []) c.reserve.ensures.items in
-    subst (λ is. JoinsAny c.args.mask c.args.capacity false (Some c.args.average) own.device.core.number shape (Ok seat) (named own.inners.items st)
-    (named is after) c.args.trigger.now c.join_input.new.trigger) (sym items)
+    subst (λ is. JoinsAny (joining_of own.device.core.number shape c.args.mask c.args.capacity false (Some c.args.average)) (Ok seat)
+    (named own.inners.items st) (named is after) c.args.trigger.now c.join_input.new.trigger) (sym items)
     (inner_joins c.args.mask c.args.average own.device.core.number shape own.inners.items seat st after c.args.trigger.now c.join_input.new.trigger
     c.args.capacity free below c.in-Ok.ensures.joins)

@@ -5,7 +5,7 @@ use Rattle.iio_device.specs.Plug.{driver_of}
 use Rattle.iio_bench.specs.Bench.{captures_of}
 use Rattle.iio_bench.specs.Seat.{seen_of}
 use Rattle.iio_system.specs.Connections.{AreOwning}
-use Rattle.iio_system.specs.Standing.{MakesStep}
+use Rattle.iio_system.specs.Standing.{MakesStep, step_state}
 use Rattle.iio_system.specs.declared.step.Step.TheVariants as code
 use Rattle.iio_system.proofs.PlayLaws.{made_move, on_ok}
 use Rattle.iio_system.proofs.StepLaws.{counted_more, performed_ok}
@@ -24,8 +24,8 @@ invariant_of-self g c = record {
 pub returns-clause-performed : goal.returns-clause-performed
 returns-clause-performed g c =
     let makes : OnOk c.fire.result (MakesStep (driver_of (λ b. (g.dyn-1.0.entry b.vtable).1.driver b.value)) (code.Fire c.args.trigger c.args.t)
-    c.args.self.now.bench c.fire.new.bench c.args.self.now.connections.items c.args.self.now.connections.items c.args.out.now.items
-    c.fire.new.out.items) =
+    (step_state c.args.self.now.bench c.args.self.now.connections.items c.args.out.now.items)
+    (step_state c.fire.new.bench c.args.self.now.connections.items c.fire.new.out.items)) =
     made_move _ (code.Fire c.args.trigger c.args.t) c.args.self.now.bench c.fire.new.bench c.args.self.now.connections.items _ _ c.fire.result
     (simp (to_z-of_z, c.ranges.t) at c.fire.ensures.makes) in
     performed_ok (driver_of (λ b. (g.dyn-1.0.entry b.vtable).1.driver b.value)) c.args.self.now _ (code.Fire c.args.trigger c.args.t)

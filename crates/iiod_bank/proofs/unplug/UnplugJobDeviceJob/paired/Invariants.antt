@@ -1,13 +1,12 @@
 use Rattle.std.proofs.Common.{length}
 use Rattle.iio_device.specs.Plug.{driver_of}
-use Rattle.iio_kfifo.specs.contracts.writer.WriterTail.TheImpl.{ghosts}
 use Rattle.iiod_bank.specs.Lent.{lent_by}
 use Rattle.iiod_bank.proofs.UnplugLaws.{IsEmptying}
 use Rattle.iiod_bank.proofs.unplug.UnplugJobDeviceJob.paired.Given as goal
 
 abbrev pub invariant-loop-member : goal.invariant-loop-member
 invariant-loop-member g l =
-    IsEmptying ghosts.lost (lent_by (driver_of (λ p. (g.dyn-1.0.entry p.vtable).1.driver p.value)) l.initial.device) l.initial.trigger
+    IsEmptying (lent_by (driver_of (λ p. (g.dyn-1.0.entry p.vtable).1.driver p.value)) l.initial.device) l.initial.trigger
     (lent_by (driver_of (λ p. (g.dyn-1.0.entry p.vtable).1.driver p.value)) l.device) l.trigger
 
 abbrev pub decreases-loop-member : goal.decreases-loop-member

@@ -10,14 +10,14 @@ use Rattle.iiod_session.proofs.session.Session.feed_watched.Goals as goal
 
 pub returns-in-Ok-clause-feeds : goal.returns-in-Ok-clause-feeds
 returns-in-Ok-clause-feeds g c =
-    rw (← c.self.view_is) (feeds_given c.self.inside.manner _ _ _ _ _ _ _ c.in-Ok.going
+    rw (← c.self.view_is) (feeds_given c.self.inside.manner _ _ _ c.in-Ok.going
     (seated g.I.Iio.seen _ c.self.inside.client (rw (← c.self.view_is) at c.requires))
-    (carries_of c.self.inside.manner _ _ _ _ _ _ _ c.in-Ok.going c.in-Ok.ensures.hears))
+    (carries_of c.self.inside.manner _ _ _ c.in-Ok.going c.in-Ok.ensures.hears))
 
 pub returns-in-Ok-clause-script : goal.returns-in-Ok-clause-script
 returns-in-Ok-clause-script g c =
-    rw (← c.self.view_is) (feed_tells c.self.inside.manner _ _ _ _ _ _ _ (Ok c.in-Ok.going) c.in-Ok.ensures.all
-    (carries_of c.self.inside.manner _ _ _ _ _ _ _ c.in-Ok.going c.in-Ok.ensures.hears))
+    rw (← c.self.view_is) (feed_tells c.self.inside.manner _ _ _ (Ok c.in-Ok.going) c.in-Ok.ensures.all
+    (carries_of c.self.inside.manner _ _ _ c.in-Ok.going c.in-Ok.ensures.hears))
 
 pub returns-in-Ok-clause-watched : goal.returns-in-Ok-clause-watched
 returns-in-Ok-clause-watched g c =
