@@ -1,17 +1,17 @@
 -- Devices of a bench of any kind; what a call at one that isn't an averaging device changes.
-use Rattle.std.proofs.Common.{◌≡◌, ℕ, suc, Bool, false, List, [], ◌∷◌, Option, None, Result, Ok, Err, refl, sym, ap, ◌∙◌, arith, cond}
+use Rattle.std.proofs.Common.{◌≡◌, ℕ, suc, Bool, false, List, [], ◌∷◌, Option, None, Result, refl, sym, ap, ◌∙◌, arith, cond, rules}
 use Rattle.std.specs.Prelude.{◌==◌, ◌&&◌, not}
 use Rattle.iio_base.specs.Refusals.{first_refusal, unless_refused}
 use Rattle.iio_text.specs.declared.errors.Errno.{Errno}
 use Rattle.iio_layout.specs.Shape.{ShapeRecord}
-use Rattle.iio_desc.specs.Kind.{Kind, Input, Output, Average, is_average, is_input, is_output, is_over}
+use Rattle.iio_desc.specs.Kind.{Kind, is_average, is_input, is_output, is_over}
 use Rattle.iio_sensor.specs.Driver.{Driver}
 use Rattle.iio_device.specs.declared.plug.Plug.{Plug}
 use Rattle.iio_device.specs.Site.{at_place, is_empty}
 use Rattle.iio_core.specs.Opening.{own_host}
 use Rattle.iio_core.specs.Attached.{is_attached}
 use Rattle.iio_core.specs.Lists.{map_from}
-use Rattle.iio_core.specs.Calls.{CallResult, all_joined, machine_after_close, inner_gone, inner_joined, inner_left, station_after_join, station_after_leave, open_of, open_refusals, trigger_by, trigger_of, unless, unless_made, with_inner, without_inner, host_of}
+use Rattle.iio_core.specs.Calls.{all_joined, machine_after_close, inner_left, station_after_join, station_after_leave, open_of, open_refusals, trigger_by, trigger_of, unless, unless_made, host_of}
 use Rattle.iio_core.specs.Front.{Front, kind_at, shape_at}
 use Rattle.iio_core.specs.Machine.{Machine, Station, station_at, with_station, attachment_of, masks_of}
 use Rattle.iio_core.proofs.PlaceLists.{placed_from}
@@ -39,19 +39,13 @@ placed f g k xs same = as_from f (λ n x. cond (k == n) (g x) x) 0 xs same ∙ s
 -- ---- kinds except averaging devices
 
 pub over_none : (kind : Kind) (k : ℕ) → is_average kind ≡ false → is_over kind k ≡ false
-over_none Input k plain = refl
-over_none Output k plain = refl
-over_none (Average base window) k plain = absurd (cc)
+over_none kind k plain = search rules
 
 pub input_is : (kind : Kind) → (not (is_output kind) && not (is_average kind)) ≡ is_input kind
-input_is Input = refl
-input_is Output = refl
-input_is (Average base window) = refl
+input_is kind = search rules
 
 trigger_plain : (kind : Kind) (m : Machine) (dev : ℕ) → is_average kind ≡ false → trigger_by kind m dev ≡ (station_at m dev).site.trigger
-trigger_plain Input m dev plain = refl
-trigger_plain Output m dev plain = refl
-trigger_plain (Average base window) m dev plain = absurd (cc)
+trigger_plain kind m dev plain = search rules
 
 pub trigger_told : (front : Front) (m : Machine) (dev : ℕ) → is_average (kind_at front dev) ≡ false → trigger_of front m dev ≡ (station_at m dev).site.trigger
 unfolding trigger_of
@@ -61,27 +55,18 @@ module _ (front : Front) (dev : ℕ) (plain : is_average (kind_at front dev) ≡
   -- a joining changes only the device
   pub joined_alone : (change : Station → Station) (m : Machine) → all_joined front dev change m ≡ with_station change dev m
   unfolding with_station
-  joined_alone change m =
-      ap (λ (sts : List Station). (let x : Machine = record m { stations = sts } in x))
-      (placed (λ k st. cond (dev == k) (change st) (with_inner front dev k st)) change dev m.stations
-      (λ j st. ap (λ (b : Bool). cond (dev == j) (change st) (cond (b && is_input (kind_at front j)) (inner_joined dev (shape_at front j) st) st))
-      (over_none (kind_at front dev) j plain)))
+  joined_alone change m = search (rules, placed, over_none)
 
   -- a leaving changes only the device
   left_alone : (m : Machine) → inner_left front dev m ≡ m
-  left_alone m =
-      ap (λ (sts : List Station). (let x : Machine = record m { stations = sts } in x))
-      (kept_from (without_inner front m dev) 0 m.stations
-      (λ j st. ap (λ (b : Bool). cond (b && is_input (kind_at front j) && is_empty (station_at m dev).members) (inner_gone dev st) st)
-      (over_none (kind_at front dev) j plain)))
+  left_alone m = simp (kept_from, over_none)
 
   pub closed_alone : (m : Machine) (number : ℕ) → machine_after_close front m dev number ≡ with_station (station_after_leave number) dev m
   unfolding machine_after_close
   closed_alone m number = left_alone (with_station (station_after_leave number) dev m)
 
   made_alone : (change : Station → Station) (m : Machine) (x : Result ℕ Errno) → unless_made (all_joined front dev change) m x ≡ unless change dev m x
-  made_alone change m (Ok n) = ap (λ (y : Machine). (let o : CallResult ℕ = record { answer = Ok n; machine = y } in o)) (joined_alone change m)
-  made_alone change m (Err e) = refl
+  made_alone change m x = search (rules, joined_alone)
 
   module _ (m : Machine) (mask capacity : ℕ) (cyclic : Bool) (st : Station) (shape : ShapeRecord) (here : station_at m dev ≡ st)
       (shaped : shape_at front dev ≡ shape) where
@@ -91,19 +76,14 @@ module _ (front : Front) (dev : ℕ) (plain : is_average (kind_at front dev) ≡
         (first_refusal (open_refusals front m.stations (kind_at front dev)
         (host_of front m.stations (kind_at front dev) (station_at m dev) (shape_at front dev) mask) (station_at m dev)))
         ≡ unless_refused st.next r
-    numbered_by Input r own is e = rw (is, here, shaped, e) refl
-    numbered_by Output r own is e = rw (is, here, shaped, e) refl
-    numbered_by (Average base window) r own is e = absurd (cc)
+    numbered_by kind r own is e = search rules
 
     -- an OPEN by the refusals of the device itself
     pub open_alone : (kind : Kind) (r : Option Errno) → kind_at front dev ≡ kind
         → first_refusal (open_refusals front m.stations kind (own_host st shape mask (masks_of st.members)) st) ≡ r
         → open_of front m dev mask capacity cyclic ≡ unless (station_after_join mask capacity cyclic None) dev m (unless_refused st.next r)
     unfolding open_of
-    open_alone kind r is e =
-        ap (λ (x : Result ℕ Errno). unless_made (all_joined front dev (station_after_join mask capacity cyclic None)) m x)
-        (numbered_by kind r (ap is_average (sym is) ∙ plain) is e)
-        ∙ made_alone (station_after_join mask capacity cyclic None) m (unless_refused st.next r)
+    open_alone kind r is e = search (rules, numbered_by, made_alone)
 
 -- ---- devices
 
@@ -111,36 +91,22 @@ module _ {X : Type 0} {V : X → Type 0} where
   -- what holds of a device's place holds whichever driver it samples by
   module _ (p q : Plug X V → Driver) where
     pub attached_as : (t : ℕ) (d : AnyDevice X V) → is_attached t (attachment_of (any_station p d)) ≡ is_attached t (attachment_of (any_station q d))
-    attached_as t (any.Input d) = refl
-    attached_as t (any.Output x) = refl
-    attached_as t (any.Average a) = refl
+    attached_as t d = search rules
 
     pub attachment_as : (d : AnyDevice X V) → (any_station p d).site.attachment ≡ (any_station q d).site.attachment
-    attachment_as (any.Input d) = refl
-    attachment_as (any.Output x) = refl
-    attachment_as (any.Average a) = refl
+    attachment_as d = search rules
 
     pub members_as : (d : AnyDevice X V) → is_empty (any_station p d).members ≡ is_empty (any_station q d).members
-    members_as (any.Input d) = refl
-    members_as (any.Output x) = refl
-    members_as (any.Average a) = refl
+    members_as d = search rules
 
     pub hosted_as : (n : ℕ) (d : AnyDevice X V) → is_hosted n (any_station p d) ≡ is_hosted n (any_station q d)
-    hosted_as n (any.Input d) = refl
-    hosted_as n (any.Output x) = refl
-    hosted_as n (any.Average a) = refl
+    hosted_as n d = search rules
 
     pub plugged_as : (d : AnyDevice X V) → (any_station p d).site.plugged ≡ (any_station q d).site.plugged
-    plugged_as (any.Input d) = refl
-    plugged_as (any.Output x) = refl
-    plugged_as (any.Average a) = refl
+    plugged_as d = search rules
 
     pub inner_as : (j : ℕ) (d : AnyDevice X V) → has_inner j (any_station p d) ≡ has_inner j (any_station q d)
-    inner_as j (any.Input d) = refl
-    inner_as j (any.Output x) = refl
-    inner_as j (any.Average a) = refl
+    inner_as j d = search rules
 
     pub made_as : (d : AnyDevice X V) → (any_station p d).captures ≡ (any_station q d).captures
-    made_as (any.Input d) = refl
-    made_as (any.Output x) = refl
-    made_as (any.Average a) = refl
+    made_as d = search rules

@@ -1,8 +1,8 @@
 -- What holds of averaging devices and their bases after devices have changed.
-use Rattle.std.proofs.Common.{◌≡◌, ◌⊎◌, ℕ, zero, suc, ◌+◌, ◌<◌, ◌≤◌, true, false, not, List, [], ◌∷◌, map, length, set, slice_get, ◌-◌, ◌^◌, Some, inl, inr, refl, sym, ap, subst, ◌∙◌, arith}
+use Rattle.std.proofs.Common.{◌≡◌, ◌⊎◌, ℕ, zero, suc, ◌+◌, ◌<◌, ◌≤◌, true, false, List, [], ◌∷◌, map, length, set, slice_get, ◌-◌, ◌^◌, Some, inl, inr, refl, sym, ap, subst, ◌∙◌, arith, rules}
 use Rattle.std.proofs.lemmas.List.{map-set}
 use Rattle.iio_desc.specs.Description.{DeviceHead}
-use Rattle.iio_desc.specs.Kind.{Kind, Input, Output, Average, is_average}
+use Rattle.iio_desc.specs.Kind.{Kind, Input, Average, is_average}
 use Rattle.iio_core.specs.Machine.{Station, no_station, station_in}
 use Rattle.iio_core.specs.Lists.{map_from}
 use Rattle.iio_bench.specs.Averages.{HasInner, IsAveraged, kind_in}
@@ -18,11 +18,7 @@ pub same_or : (i j : ℕ) → (i ≡ j) ⊎ (i ≡ j → ⊥)
 same_or zero zero = inl refl
 same_or zero (suc j) = inr (λ e. absurd (omega (arith, e)))
 same_or (suc i) zero = inr (λ e. absurd (omega (arith, e)))
-same_or (suc i) (suc j) = by (same_or i j)
-  where
-    by : (i ≡ j) ⊎ (i ≡ j → ⊥) → (suc i ≡ suc j) ⊎ (suc i ≡ suc j → ⊥)
-    by (inl e) = inl (ap (λ (n : ℕ). suc n) e)
-    by (inr other) = inr (λ e. other (omega (arith, e)))
+same_or (suc i) (suc j) = search rules
 
 pub here_is : (sts : List Station) (k : ℕ) (st : Station) → slice_get sts k ≡ Some st → station_in sts k ≡ st
 here_is [] k st at = absurd (cc)
@@ -99,9 +95,7 @@ from_each {A = A} f n (x ∷ xs) (y ∷ ys) same each =
 -- ---- kinds
 
 same_kind : (kind other : Kind) (base window : ℕ) → kind ≡ Average base window → kind ≡ other → is_average other ≡ false → ⊥
-same_kind kind Input base window is e plain = cc
-same_kind kind Output base window is e plain = cc
-same_kind kind (Average b w) base window is e plain = cc
+same_kind kind other base window is e plain = cc
 
 -- an averaging device isn't a device of another kind
 pub average_other : (heads : List DeviceHead) (j k base window : ℕ) → kind_in heads j ≡ Average base window → is_average (kind_in heads k) ≡ false → j ≡ k → ⊥
@@ -111,11 +105,7 @@ pub input_plain : (kind : Kind) → kind ≡ Input → is_average kind ≡ false
 input_plain kind is = ap is_average is
 
 base_same : (a b c d : ℕ) → Average a b ≡ Average c d → a ≡ c
-base_same a b c d e = ap base_or e
-  where
-    base_or : Kind → ℕ
-    base_or (Average base window) = base
-    base_or kind = 0
+base_same a b c d e = cc
 
 -- an averaging device is there
 pub average_there : (heads : List DeviceHead) (j base window : ℕ) → kind_in heads j ≡ Average base window → j < length heads
@@ -129,19 +119,7 @@ module _ (triggers first : ℕ) (heads : List DeviceHead) where
   pub averaged_each : (sts sts' : List Station) → IsAveraged triggers first heads sts → ((i : ℕ) → KeepsInner (station_in sts i) (station_in sts' i))
       → ((j base window : ℕ) → kind_in heads j ≡ Average base window → ((station_in sts' j).captures ≤ (station_in sts' base).captures)
       × ((station_in sts' base).captures ≤ 2 ^ 64 - 1)) → IsAveraged triggers first heads sts'
-  averaged_each sts sts' a kept fewer = record {
-    bases = a.bases;
-    hosted = λ dev plain. (kept dev).hosted triggers (a.hosted dev plain);
-    inners = λ j base window is. (
-        let own = a.inners j base window is in
-        record {
-          plugged = (kept j).plugged ∙ own.plugged ∙ sym (kept base).plugged;
-          inner = (kept base).inner j ∙ own.inner ∙ ap not (sym (kept j).empty);
-          fewer = (fewer j base window is).0;
-          most = (fewer j base window is).1;
-        }
-        );
-  }
+  averaged_each sts sts' a kept fewer = search rules
 
   pub averaged_stands : (sts : List Station) (k : ℕ) (st st' : Station) → IsAveraged triggers first heads sts → slice_get sts k ≡ Some st → KeepsStanding st st'
       → IsAveraged triggers first heads (set sts k st')
@@ -171,31 +149,12 @@ module _ (triggers first : ℕ) (heads : List DeviceHead) where
     }
       where
         host : (dev : ℕ) → is_average (kind_in heads dev) ≡ false → (dev ≡ k) ⊎ (dev ≡ k → ⊥) → is_hosted triggers (station_in (set sts k st') dev) ≡ true
-        host dev is (inl e) =
-            ap (λ (i : ℕ). is_hosted triggers (station_in (set sts k st') i)) e ∙ ap (λ (x : Station). is_hosted triggers x) (set_here sts k st st' at) ∙ hosted
-        host dev is (inr other) = ap (λ (x : Station). is_hosted triggers x) (set_there sts k dev st' other) ∙ a.hosted dev is
+        host dev is h1 = search (rules, set, set_here, set_there)
 
         inner : (j base window : ℕ) → kind_in heads j ≡ Average base window → (base ≡ k) ⊎ (base ≡ k → ⊥)
             → HasInner j (station_in (set sts k st') base) (station_in (set sts k st') j)
-        inner j base window is (inl e) =
-            let own = subst (λ (i : ℕ). HasInner j (station_in sts i) (station_in sts j)) e (a.inners j base window is) in
-            let was = here_is sts k st at in
-            let before = subst (λ (x : Station). HasInner j x (station_in sts j)) was own in
-            subst (λ (i : ℕ). HasInner j (station_in (set sts k st') i) (station_in (set sts k st') j)) (sym e)
-            (subst (λ (x : Station). HasInner j x (station_in (set sts k st') j)) (sym (set_here sts k st st' at))
-            (subst (λ (x : Station). HasInner j st' x) (sym (set_there sts k j st' (average_other heads j k base window is plain)))
-            (record {
-              plugged = before.plugged ∙ sym kept.plugged;
-              inner = kept.inner j ∙ before.inner;
-              fewer =
-                  (let f = before.fewer in let c = kept.captures in omega (arith, f, c));
-              most =
-                  (let f = before.most in let c = kept.captures in omega (arith, f, c));
-            })))
-        inner j base window is (inr other) =
-            subst (λ (x : Station). HasInner j x (station_in (set sts k st') j)) (sym (set_there sts k base st' other))
-            (subst (λ (x : Station). HasInner j (station_in sts base) x) (sym (set_there sts k j st' (average_other heads j k base window is plain)))
-            (a.inners j base window is))
+        inner j base window is (inl e) = search (rules, here_is, set, set_here, set_there, average_other)
+        inner j base window is (inr other) = search (rules, set, set_there, average_other)
 
   -- ---- if an averaging device and its base change
 
@@ -227,17 +186,11 @@ module _ (triggers first : ℕ) (heads : List DeviceHead) where
     }
       where
         host : (dev : ℕ) → is_average (kind_in heads dev) ≡ false → (dev ≡ base) ⊎ (dev ≡ base → ⊥) → is_hosted triggers (station_in after dev) ≡ true
-        host dev plain (inl e) = ap (λ (i : ℕ). is_hosted triggers (station_in after i)) e ∙ ap (λ (x : Station). is_hosted triggers x) base_after ∙ hosted
-        host dev plain (inr away) =
-            ap (λ (x : Station). is_hosted triggers x) (other_after dev (λ e. average_other heads j dev base window is plain (sym e)) away) ∙ a.hosted dev plain
+        host dev plain h1 = search (rules, base_after, other_after, average_other)
 
         inner : (i under' w : ℕ) → kind_in heads i ≡ Average under' w → (i ≡ j) ⊎ (i ≡ j → ⊥) → (under' ≡ base) ⊎ (under' ≡ base → ⊥)
             → HasInner i (station_in after under') (station_in after i)
-        inner i under' w averages (inl e) o =
-            let one : under' ≡ base = base_same under' w base window (sym averages ∙ ap (λ (k : ℕ). kind_in heads k) e ∙ is) in
-            subst (λ (k : ℕ). HasInner i (station_in after k) (station_in after i)) (sym one)
-            (subst (λ (k : ℕ). HasInner k (station_in after base) (station_in after k)) (sym e)
-            (subst (λ (x : Station). HasInner j x (station_in after j)) (sym base_after) (subst (λ (x : Station). HasInner j b' x) (sym own_after) own)))
+        inner i under' w averages (inl e) o = search (rules, base_same, base_after, own_after)
         inner i under' w averages (inr aside) (inl e) =
             let before =
             subst (λ (x : Station). HasInner i x (station_in sts i)) (here_is sts base b under)
@@ -248,8 +201,7 @@ module _ (triggers first : ℕ) (heads : List DeviceHead) where
             (record {
               plugged = before.plugged ∙ sym plugged;
               inner = others i aside ∙ before.inner;
-              fewer =
-                  (let f = before.fewer in omega (arith, f, captures));
+              fewer = search rules;
               most = (let f = before.most in omega (arith, f, captures));
             })))
         inner i under' w averages (inr aside) (inr away) =

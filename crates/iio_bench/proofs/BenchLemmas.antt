@@ -1,6 +1,7 @@
 -- What holds of a bench after one device has changed.
-use Rattle.std.proofs.Common.{◌≡◌, ◌⊎◌, ℕ, ◌<◌, Bool, true, false, List, [], ◌∷◌, map, length, set, slice_get, Option, Some, None, IfSome, Result, Ok, Err, inl, inr, refl, sym, ap, subst, ◌∙◌, arith, cond}
-use Rattle.std.specs.Prelude.{◌==◌, ◌||◌, ⊤}
+use Rattle.std.proofs.Common.{◌≡◌, ◌⊎◌, ℕ, ◌<◌, Bool, true, false, List, [], ◌∷◌, map, length, set, slice_get, Option, Some, IfSome, Result, Ok, inl, inr, refl, sym, ap, subst, ◌∙◌, arith, rules}
+use Rattle.std.proofs.lemmas.Grind.{common_steps}
+use Rattle.std.specs.Prelude.{◌==◌, ⊤}
 use Rattle.std.specs.List.{list_any}
 use Rattle.std.proofs.lemmas.Bool.Decides.{nat_tests}
 use Rattle.std.proofs.lemmas.List.{map-set}
@@ -14,16 +15,15 @@ use Rattle.iio_device.specs.declared.totals.Totals.{Totals}
 use Rattle.iio_device.specs.Site.{is_empty, site_written, with_monitor}
 use Rattle.iio_event.specs.Monitor.{MonitorRecord}
 use Rattle.iiod_commands.specs.declared.iio.No.{No}
-use Rattle.iiod_commands.specs.declared.iio.No.TheVariants.{Errno as NoErrno, Mem as NoMem}
 use Rattle.iiod_commands.specs.declared.iio.Took.{Took}
 use Rattle.iiod_commands.specs.declared.iio.Took.TheVariants.{Scan, Empty, Gone}
 use Rattle.iio_core.specs.Attached.{is_attached}
-use Rattle.iio_core.specs.Machine.{Member, MemberId, Station, is_id_of, with_scans, with_site, attachment_of}
+use Rattle.iio_core.specs.Machine.{Member, MemberId, Station, with_scans, with_site, attachment_of}
 use Rattle.iio_core.specs.Calls.{is_inner_of, trigger_answer}
 use Rattle.iio_kinds.specs.Acting.{Acts, TakesAt, TakesScansAt}
 use Rattle.iio_kinds.specs.Inner.{has_inner}
 use Rattle.iio_bench.specs.Triggers.{IsBench, IsTrigger, places_from}
-use Rattle.iio_kinds.specs.Places.{has_in_hand, hosts, is_hosted}
+use Rattle.iio_kinds.specs.Places.{hosts, is_hosted}
 use Rattle.iio_trigger.specs.Trigger.{with_place, without_place}
 use Rattle.iio_bench.proofs.ListLemmas.{after_set, length_after, map_same, set_same}
 use Rattle.iio_bench.proofs.PlaceLemmas.{places_attached, places_detached, places_kept, places_none}
@@ -55,28 +55,17 @@ bench_by f triggers states ds k d' b = rw (map-set f ds k d') b
 
 -- ---- which calls keep a device's standing
 
-holds_at : (P : Station → Type 0) (st' x : Station) → P x → st' ≡ x → P st'
-holds_at P st' x p e = subst P (sym e) p
-
 module _ {A : Type 0} (P : Station → Type 0) (change : Station → Station) (st st' : Station) where
   -- what holds after a call that is made, and after one that changed nothing
   pub acts_hold : (answer : Result A Errno) (r : Result A No) → ((x : A) → answer ≡ Ok x → P (change st)) → P st → Acts change answer r st st' → P st'
-  acts_hold (Ok x) (Ok y) made was t = holds_at P st' (change st) (made x refl) t.1
-  acts_hold (Ok x) (Err (NoErrno e)) made was t = holds_at P st' (change st) (made x refl) t.1
-  acts_hold (Ok x) (Err NoMem) made was t = holds_at P st' st was t
-  acts_hold (Err e) (Ok y) made was t = holds_at P st' st was t.1
-  acts_hold (Err e) (Err (NoErrno o)) made was t = holds_at P st' st was t.1
-  acts_hold (Err e) (Err NoMem) made was t = holds_at P st' st was t
+  acts_hold answer r made was t = search rules
 
 pub acts_stand : {A : Type 0} (change : Station → Station) (st st' : Station) (answer : Result A Errno) (r : Result A No)
     → ((x : A) → answer ≡ Ok x → KeepsStanding st (change st)) → Acts change answer r st st' → KeepsStanding st st'
 acts_stand change st st' answer r kept t = acts_hold (KeepsStanding st) change st st' answer r kept (stands_same st st refl) t
 
 pub write_stands : (channel : Option ℕ) (a : Attr) (v : Fixed) (st : Station) → KeepsStanding st (with_site (site_written channel a v) st)
-write_stands None attr.SamplingFrequency v st = standing st _ refl refl refl refl (λ j. refl) refl
-write_stands None a v st = standing st _ refl refl refl refl (λ j. refl) refl
-write_stands (Some c) attr.Calibbias v st = standing st _ refl refl refl refl (λ j. refl) refl
-write_stands (Some c) a v st = standing st _ refl refl refl refl (λ j. refl) refl
+write_stands channel a v st = search rules
 
 pub monitor_stands : (change : MonitorRecord ℕ → MonitorRecord ℕ) (st : Station) → KeepsStanding st (with_site (with_monitor change) st)
 monitor_stands change st = standing st _ refl refl refl refl (λ j. refl) refl
@@ -84,14 +73,6 @@ monitor_stands change st = standing st _ refl refl refl refl (λ j. refl) refl
 -- a device without a member isn't attached
 pub none_attached : (t : ℕ) (st : Station) → is_empty st.members ≡ true → is_attached t (attachment_of st) ≡ false
 none_attached t st e = rw e (grind arith)
-
-answered_empty : (st : Station) (x : ⊤) → trigger_answer st ≡ Ok x → is_empty st.members ≡ true
-answered_empty st x e = by st.site.plugged (is_empty st.members) refl refl e
-  where
-    by : (p b : Bool) → st.site.plugged ≡ p → is_empty st.members ≡ b → trigger_answer st ≡ Ok x → is_empty st.members ≡ true
-    by p true i j e = j
-    by true false i j e = absurd (let h = rw (i, j) at e in cc)
-    by false false i j e = absurd (let h = rw i at e in cc)
 
 -- a device without a member whose trigger is replaced by one of the first n, or by none
 pub record KeepsRest (n : ℕ) (st st' : Station) : Type 0 where
@@ -101,49 +82,20 @@ pub record KeepsRest (n : ℕ) (st st' : Station) : Type 0 where
   pub inner : (j : ℕ) → has_inner j st' ≡ has_inner j st
   pub captures : st'.captures ≡ st.captures
 
-rest_same : (n : ℕ) (st : Station) → KeepsRest n st st
-rest_same n st = record { place = record { attached = λ t. refl; attachment = refl }; hosted = λ h. h; plugged = refl; inner = λ j. refl; captures = refl }
-
 pub on_one : (n : ℕ) (trigger : Option ℕ) (empty : Bool) → IfSome trigger (λ t. t < n) → empty ≡ true → hosts n empty trigger ≡ true
-on_one n None empty within e = e
-on_one n (Some t) empty within e = grind (arith, nat_tests)
-
-trigger_rest : (n : ℕ) (trigger : Option ℕ) (st : Station) (x : ⊤) → IfSome trigger (λ t. t < n) → trigger_answer st ≡ Ok x
-    → KeepsRest n st (with_site (λ site. record site { trigger = trigger }) st)
-trigger_rest n trigger st x within e =
-    let empty = answered_empty st x e in
-    let st' : Station = with_site (λ site. record site { trigger = trigger }) st in
-    record {
-      place = record { attached = λ t. none_attached t st' empty ∙ sym (none_attached t st empty); attachment = refl };
-      hosted = λ h. on_one n trigger (is_empty st.members) within empty;
-      plugged = refl;
-      inner = λ j. refl;
-      captures = refl;
-    }
+on_one n trigger empty within e = search rules
 
 pub trigger_rests : (n : ℕ) (trigger : Option ℕ) (st st' : Station) (r : Result ⊤ No) → IfSome trigger (λ t. t < n)
     → Acts (with_site (λ site. record site { trigger = trigger })) (trigger_answer st) r st st' → KeepsRest n st st'
-trigger_rests n trigger st st' r within t =
-    acts_hold (KeepsRest n st) (with_site (λ site. record site { trigger = trigger })) st st' (trigger_answer st) r
-    (λ x e. trigger_rest n trigger st x within e) (rest_same n st) t
+trigger_rests n trigger st st' r within t = search rules
 
 empty_with_scans : (id : MemberId) (scans : List (List ℕ)) (ms : List Member) → is_empty (with_scans id scans ms) ≡ is_empty ms
-empty_with_scans id scans [] = refl
-empty_with_scans id scans (m ∷ ms) = by (is_id_of id m)
-  where
-    by : (b : Bool) → is_empty (cond b (record m { scans = scans } ∷ ms) (m ∷ with_scans id scans ms)) ≡ false
-    by true = refl
-    by false = refl
+empty_with_scans id scans ms = search rules
 
 inner_with_scans : (j : ℕ) (id : MemberId) (scans : List (List ℕ)) (ms : List Member)
     → list_any (is_inner_of j) (with_scans id scans ms) ≡ list_any (is_inner_of j) ms
 inner_with_scans j id scans [] = refl
-inner_with_scans j id scans (m ∷ ms) = by (is_id_of id m) (inner_with_scans j id scans ms)
-  where
-    by : (b : Bool) → list_any (is_inner_of j) (with_scans id scans ms) ≡ list_any (is_inner_of j) ms
-        → list_any (is_inner_of j) (cond b (record m { scans = scans } ∷ ms) (m ∷ with_scans id scans ms)) ≡ (is_inner_of j m || list_any (is_inner_of j) ms)
-    by true rest = refl
-    by false rest = ap (λ (b : Bool). is_inner_of j m || b) rest
+inner_with_scans j id scans (m ∷ ms) = search (rules, with_scans, inner_with_scans j id scans ms)
 
 pub scans_stand : (id : MemberId) (totals : Totals) (scans : List (List ℕ)) (st : Station)
     → KeepsStanding st (record st { totals = totals; members = with_scans id scans st.members })
@@ -164,8 +116,7 @@ take_scans_stand id most Gone before after st st' t = stands_same st st' t.3
 pub inner_mapped : (j : ℕ) (f : Member → Member) → ((x : Member) → is_inner_of j (f x) ≡ is_inner_of j x) → (ms : List Member)
     → list_any (is_inner_of j) (map f ms) ≡ list_any (is_inner_of j) ms
 inner_mapped j f same [] = refl
-inner_mapped j f same (m ∷ ms) =
-    ap (λ (b : Bool). b || list_any (is_inner_of j) (map f ms)) (same m) ∙ ap (λ (b : Bool). is_inner_of j m || b) (inner_mapped j f same ms)
+inner_mapped j f same (m ∷ ms) = search (rules, inner_mapped j f same ms)
 
 -- ---- a device and its trigger
 
@@ -191,10 +142,7 @@ module _ (triggers : List TriggerDesc) (states : List State) (sts : List Station
   }
     where
       by : (u : ℕ) (x : State) → ((u ≡ t) × (x ≡ s')) ⊎ ((u ≡ t → ⊥) × (slice_get states u ≡ Some x)) → IsTrigger u (set sts k st') x
-      by u x (inl p) = record {
-        attached = ap (λ (y : State). y.attached) p.1 ∙ own ∙ ap (λ (v : ℕ). places_from 0 v (set sts k st')) (sym p.0);
-        idle = ap (λ (y : State). has_in_hand y.outstanding) p.1 ∙ ap (λ es. has_in_hand es) outstanding ∙ (bench.each t s there).idle;
-      }
+      by u x (inl p) = grind (arith, common_steps)
       by u x (inr p) = record {
         attached = (bench.each u x p.1).attached ∙ sym (others u p.0);
         idle = (bench.each u x p.1).idle;

@@ -1,9 +1,9 @@
 -- The connections besides the watched one, one after another.
-use Rattle.std.proofs.Common.{◌≡◌, ℕ, ◌+◌, ◌<◌, ◌&&◌, ◌||◌, Bool, true, false, cond, List, [], ◌∷◌, ◌++◌, length, drop, get_or, Option, Some, None, option_map, is_some, refl, sym, ap, ◌∙◌}
+use Rattle.std.proofs.Common.{◌≡◌, ℕ, ◌+◌, ◌<◌, ◌&&◌, ◌||◌, Bool, true, false, cond, List, [], ◌∷◌, ◌++◌, length, drop, get_or, Option, Some, None, option_map, is_some, refl, sym, ap, ◌∙◌, arith, rules}
+use Rattle.std.proofs.lemmas.Grind.{common_steps}
 use Rattle.std.specs.Borrow.{Bor}
 use Rattle.std.specs.Option.{option_copied}
 use Rattle.std.specs.Str.{bytes_eq}
-use Rattle.std.proofs.lemmas.List.{at_drop_more}
 use Rattle.iiod_commands.specs.Client.{ClientRecord, client_of, place_of, seats_of}
 use Rattle.iiod_commands.specs.Seat.{SeatRecord}
 use Rattle.iiod_session.specs.Session.{SessionRecord}
@@ -13,29 +13,11 @@ use Rattle.iio_worlds.specs.Stance.{has_seat, none_seated, one_seated}
 use Rattle.iio_bench.specs.declared.connection.Connection.{Connection}
 use Rattle.iio_bench.specs.Guard.{connection_named, client_by, client_named, clients_besides, with_client}
 
-or_none : (h x : Bool) → (h || x) ≡ ((h || false) || x)
-or_none true x = refl
-or_none false x = refl
-
-and_all : (h x : Bool) → (h && x) ≡ ((h && true) && x)
-and_all true x = refl
-and_all false x = refl
-
 or_more : (a b c : Bool) → (a || (b || c)) ≡ ((a || b) || c)
-or_more true b c = refl
-or_more false b c = refl
+or_more a b c = search rules
 
 and_more : (a b c : Bool) → (a && (b && c)) ≡ ((a && b) && c)
-and_more true b c = refl
-and_more false b c = refl
-
-or_last : (h : Bool) → h ≡ (h || false)
-or_last true = refl
-or_last false = refl
-
-and_last : (h : Bool) → h ≡ (h && true)
-and_last true = refl
-and_last false = refl
+and_more a b c = search rules
 
 seated_join : (ds es : List ClientRecord) (k : ℕ) → one_seated (ds ++ es) k ≡ (one_seated ds k || one_seated es k)
 seated_join [] es k = refl
@@ -57,8 +39,7 @@ module _ {S : Type 0} (seen : S → SeatRecord) where
 
   -- a session that is lent
   pub lent_client : (own : Option (Bor (SessionRecord S))) → client_by seen own ≡ session_client (option_copied own)
-  lent_client None = refl
-  lent_client (Some x) = refl
+  lent_client own = search rules
 
   -- ---- one connection: if it has that name it counts as nobody, and so it does if it has ended
 
@@ -67,93 +48,47 @@ module _ {S : Type 0} (seen : S → SeatRecord) where
 
   pub ended_seated : (a : List ℕ) (c : Connection S) (k : ℕ) → bytes_eq c.name a ≡ false → c.session ≡ None
       → false ≡ one_seated (clients_besides seen a (c ∷ [])) k
-  ended_seated a c k other none =
-      ap (λ (o : Option (SessionRecord S)). one_seated (with_client seen o []) k) (sym none)
-      ∙ ap (λ (b : Bool). one_seated (cond b [] (with_client seen c.session [])) k) (sym other)
+  ended_seated a c k other none = cc
 
   pub live_seated : (a : List ℕ) (c : Connection S) (x : SessionRecord S) (k : ℕ) (h : Bool) → bytes_eq c.name a ≡ false → c.session ≡ Some x
       → h ≡ has_seat k (client_of seen x.client)
       → h ≡ one_seated (clients_besides seen a (c ∷ [])) k
-  live_seated a c x k h other some is =
-      is ∙ or_last (has_seat k (client_of seen x.client)) ∙ ap (λ (o : Option (SessionRecord S)). one_seated (with_client seen o []) k) (sym some)
-      ∙ ap (λ (b : Bool). one_seated (cond b [] (with_client seen c.session [])) k) (sym other)
+  live_seated a c x k h other some is = search rules
 
   pub same_none : (a : List ℕ) (c : Connection S) → bytes_eq c.name a ≡ true → true ≡ none_seated (clients_besides seen a (c ∷ []))
   same_none a c same = ap (λ (b : Bool). none_seated (cond b [] (with_client seen c.session []))) (sym same)
 
   pub ended_none : (a : List ℕ) (c : Connection S) → bytes_eq c.name a ≡ false → c.session ≡ None → true ≡ none_seated (clients_besides seen a (c ∷ []))
-  ended_none a c other none =
-      ap (λ (o : Option (SessionRecord S)). none_seated (with_client seen o [])) (sym none)
-      ∙ ap (λ (b : Bool). none_seated (cond b [] (with_client seen c.session []))) (sym other)
+  ended_none a c other none = cc
 
   pub live_none : (a : List ℕ) (c : Connection S) (x : SessionRecord S) (h : Bool) → bytes_eq c.name a ≡ false → c.session ≡ Some x
       → h ≡ is_empty (client_of seen x.client).seats
       → h ≡ none_seated (clients_besides seen a (c ∷ []))
-  live_none a c x h other some is =
-      is ∙ and_last (is_empty (client_of seen x.client).seats) ∙ ap (λ (o : Option (SessionRecord S)). none_seated (with_client seen o [])) (sym some)
-      ∙ ap (λ (b : Bool). none_seated (cond b [] (with_client seen c.session []))) (sym other)
+  live_none a c x h other some is = search rules
 
   -- ---- the first connection, and the others
-
-  seated_first : (a : List ℕ) (c : Connection S) (cs : List (Connection S)) (k : ℕ)
-      → one_seated (clients_besides seen a (c ∷ cs)) k ≡ (one_seated (clients_besides seen a (c ∷ [])) k || one_seated (clients_besides seen a cs) k)
-  seated_first a c cs k = by (bytes_eq c.name a) c.session
-    where
-      by : (b : Bool) (o : Option (SessionRecord S))
-          → one_seated (cond b (clients_besides seen a cs) (with_client seen o (clients_besides seen a cs))) k
-          ≡ (one_seated (cond b [] (with_client seen o [])) k || one_seated (clients_besides seen a cs) k)
-      by true o = refl
-      by false None = refl
-      by false (Some x) = or_none (has_seat k (client_of seen x.client)) (one_seated (clients_besides seen a cs) k)
-
-  none_first : (a : List ℕ) (c : Connection S) (cs : List (Connection S))
-      → none_seated (clients_besides seen a (c ∷ cs)) ≡ (none_seated (clients_besides seen a (c ∷ [])) && none_seated (clients_besides seen a cs))
-  none_first a c cs = by (bytes_eq c.name a) c.session
-    where
-      by : (b : Bool) (o : Option (SessionRecord S))
-          → none_seated (cond b (clients_besides seen a cs) (with_client seen o (clients_besides seen a cs)))
-          ≡ (none_seated (cond b [] (with_client seen o [])) && none_seated (clients_besides seen a cs))
-      by true o = refl
-      by false None = refl
-      by false (Some x) = and_all (is_empty (client_of seen x.client).seats) (none_seated (clients_besides seen a cs))
 
   -- ---- from a place on
 
   pub seated_on : (a : List ℕ) (cs : List (Connection S)) (i : ℕ) (c : Connection S) (k : ℕ) (b : Bool) → i < length cs → c ≡ get_or cs i c
       → b ≡ one_seated (clients_besides seen a (c ∷ [])) k
       → one_seated (clients_besides seen a (drop i cs)) k ≡ (b || one_seated (clients_besides seen a (drop (i + 1) cs)) k)
-  seated_on a cs i c k b within is first =
-      at_drop_more (λ ds. one_seated (clients_besides seen a ds) k) cs i c within
-      ∙ ap (λ (e : Connection S). one_seated (clients_besides seen a (e ∷ drop (i + 1) cs)) k) (sym is)
-      ∙ seated_first a c (drop (i + 1) cs) k
-      ∙ ap (λ (x : Bool). x || one_seated (clients_besides seen a (drop (i + 1) cs)) k) (sym first)
+  seated_on a cs i c k b within is first = grind (arith, common_steps)
 
   pub none_on : (a : List ℕ) (cs : List (Connection S)) (i : ℕ) (c : Connection S) (b : Bool) → i < length cs → c ≡ get_or cs i c
       → b ≡ none_seated (clients_besides seen a (c ∷ []))
       → none_seated (clients_besides seen a (drop i cs)) ≡ (b && none_seated (clients_besides seen a (drop (i + 1) cs)))
-  none_on a cs i c b within is first =
-      at_drop_more (λ ds. none_seated (clients_besides seen a ds)) cs i c within
-      ∙ ap (λ (e : Connection S). none_seated (clients_besides seen a (e ∷ drop (i + 1) cs))) (sym is)
-      ∙ none_first a c (drop (i + 1) cs)
-      ∙ ap (λ (x : Bool). x && none_seated (clients_besides seen a (drop (i + 1) cs))) (sym first)
+  none_on a cs i c b within is first = grind (arith, common_steps)
 
   -- ---- in two parts
 
   clients_parts : (a : List ℕ) (cs ds : List (Connection S)) → clients_besides seen a (cs ++ ds) ≡ clients_besides seen a cs ++ clients_besides seen a ds
   clients_parts a [] ds = refl
-  clients_parts a (c ∷ cs) ds = by (bytes_eq c.name a) c.session (clients_parts a cs ds)
-    where
-      by : (b : Bool) (o : Option (SessionRecord S)) → clients_besides seen a (cs ++ ds) ≡ clients_besides seen a cs ++ clients_besides seen a ds
-          → cond b (clients_besides seen a (cs ++ ds)) (with_client seen o (clients_besides seen a (cs ++ ds)))
-          ≡ cond b (clients_besides seen a cs) (with_client seen o (clients_besides seen a cs)) ++ clients_besides seen a ds
-      by true o rest = rest
-      by false None rest = rest
-      by false (Some x) rest = ap (λ (es : List ClientRecord). client_of seen x.client ∷ es) rest
+  clients_parts a (c ∷ cs) ds = search (rules, clients_parts a cs ds)
 
   seated_parts : (a : List ℕ) (cs ds : List (Connection S)) (k : ℕ)
       → (one_seated (clients_besides seen a cs) k || one_seated (clients_besides seen a ds) k) ≡ one_seated (clients_besides seen a (cs ++ ds)) k
-  seated_parts a cs ds k =
-      sym (ap (λ (es : List ClientRecord). one_seated es k) (clients_parts a cs ds) ∙ seated_join (clients_besides seen a cs) (clients_besides seen a ds) k)
+  seated_parts a cs ds k = simp (clients_parts, seated_join)
 
   none_parts : (a : List ℕ) (cs ds : List (Connection S))
       → (none_seated (clients_besides seen a cs) && none_seated (clients_besides seen a ds)) ≡ none_seated (clients_besides seen a (cs ++ ds))
@@ -187,12 +122,7 @@ module _ {S : Type 0} (seen : S → SeatRecord) where
 
   client_found : (a : List ℕ) (cs : List (Connection S)) → client_at (connection_named a cs) ≡ client_named seen a cs
   client_found a [] = refl
-  client_found a (c ∷ cs) = by (bytes_eq c.name a) (client_found a cs)
-    where
-      by : (b : Bool) → client_at (connection_named a cs) ≡ client_named seen a cs
-          → client_at (cond b (Some c) (connection_named a cs)) ≡ cond b (session_client c.session) (client_named seen a cs)
-      by true rest = refl
-      by false rest = rest
+  client_found a (c ∷ cs) = search (rules, client_found a cs)
 
   -- the session of that one, as it is lent
   pub lent_found : (a : List ℕ) (cs : List (Connection S)) (c : Bor (Connection S)) (own : Option (Bor (SessionRecord S))) (found : Option (Bor (Connection S)))
@@ -210,8 +140,7 @@ module _ {S : Type 0} (seen : S → SeatRecord) where
   pub besides_between : (a : List ℕ) (cs ds : List (Connection S)) (c : Connection S) → bytes_eq c.name a ≡ true
       → clients_besides seen a (cs ++ ds) ≡ clients_besides seen a (cs ++ c ∷ ds)
   besides_between a [] ds c is = rw is refl
-  besides_between a (e ∷ cs) ds c is =
-      ap (λ (es : List ClientRecord). cond (bytes_eq e.name a) es (with_client seen e.session es)) (besides_between a cs ds c is)
+  besides_between a (e ∷ cs) ds c is = simp (besides_between a cs ds c is)
 
   -- a connection of another name isn't the first of that name
   pub named_between : (a : List ℕ) (cs ds : List (Connection S)) (c : Connection S) → bytes_eq c.name a ≡ false
@@ -228,12 +157,7 @@ module _ {S : Type 0} (a : List ℕ) where
 
   named_parts : (cs ds : List (Connection S)) → or_else (connection_named a cs) (connection_named a ds) ≡ connection_named a (cs ++ ds)
   named_parts [] ds = refl
-  named_parts (c ∷ cs) ds = by (bytes_eq c.name a) (named_parts cs ds)
-    where
-      by : (b : Bool) → or_else (connection_named a cs) (connection_named a ds) ≡ connection_named a (cs ++ ds)
-          → or_else (cond b (Some c) (connection_named a cs)) (connection_named a ds) ≡ cond b (Some c) (connection_named a (cs ++ ds))
-      by true rest = refl
-      by false rest = rest
+  named_parts (c ∷ cs) ds = search (rules, named_parts cs ds)
 
   -- it is that of the first part, or else that of the second
   pub named_before : (cs ds : List (Connection S)) (c : Bor (Connection S)) (found : Option (Bor (Connection S))) → found ≡ Some c
@@ -250,7 +174,4 @@ module _ {S : Type 0} (a : List ℕ) where
   -- the first connection of a name from a place on
   pub named_on : (cs : List (Connection S)) (i : ℕ) (c : Connection S) (b : Bool) → i < length cs → c ≡ get_or cs i c → b ≡ bytes_eq c.name a
       → connection_named a (drop i cs) ≡ cond b (Some c) (connection_named a (drop (i + 1) cs))
-  named_on cs i c b within is first =
-      at_drop_more (λ ds. connection_named a ds) cs i c within
-      ∙ ap (λ (e : Connection S). connection_named a (e ∷ drop (i + 1) cs)) (sym is)
-      ∙ ap (λ (x : Bool). cond x (Some c) (connection_named a (drop (i + 1) cs))) (sym first)
+  named_on cs i c b within is first = grind (arith, common_steps)

@@ -1,10 +1,10 @@
 -- What a session heard, as the history says it.
-use Rattle.std.proofs.Common.{◌≡◌, ℕ, List, [], ◌++◌, Option, refl, sym, ap, ◌∙◌}
+use Rattle.std.proofs.Common.{◌≡◌, ℕ, List, [], ◌++◌, Option, ◌∙◌, rules}
 use Rattle.iiod_grammar.specs.Scans.{scan_on}
-use Rattle.iiod_grammar.specs.Stream.{Scanned, Scanner, items_from, no_item}
+use Rattle.iiod_grammar.specs.Stream.{Scanner, items_from, no_item}
 use Rattle.iiod_session.specs.declared.going.Going.{Going}
-use Rattle.iiod_session.specs.declared.going.Going.TheVariants.{On, Waits, Ended}
-use Rattle.iiod_commands.specs.declared.manner.Manner.TheVariants.{Script, Server}
+use Rattle.iiod_session.specs.declared.going.Going.TheVariants.{On}
+use Rattle.iiod_commands.specs.declared.manner.Manner.TheVariants.{Script}
 use Rattle.iio_core.specs.Front.{Front}
 use Rattle.iio_core.specs.Machine.{Machine}
 use Rattle.iiod_commands.specs.Client.{State, state_of}
@@ -19,17 +19,10 @@ use Rattle.iio_history.specs.BenchLaw.{heard}
 use Rattle.iio_history.proofs.BenchFeeds.{script_feeds_tell}
 use Rattle.iio_bench.specs.Connection.{HasHeard, IsHearing, arrival}
 
-script_isnt_server : Script ≡ Server → ⊥
-script_isnt_server e = absurd (cc)
-
 -- after a feed in a script there is nothing whole left
 left_is : (front : Front) (x y : Feeding State) (going : Going) → (going ≡ On → y.stream.items ≡ []) → Feeds Script front x y going
     → y.stream ≡ no_item x.stream.next
-left_is front x y On whole f =
-    ap (λ items. (let s : Scanned = record { items = items; next = y.stream.next } in s)) (whole refl) ∙ ap (λ next. no_item next) f.carried.fed.next
-left_is front x y (Waits dev) whole f = absurd (script_isnt_server f.carried.stands.server)
-left_is front x y Ended whole f =
-    f.carried.stands.1 ∙ ap (λ next. no_item next) (sym (ap (λ (s : Scanned). s.next) f.carried.stands.1) ∙ f.carried.fed.next)
+left_is front x y going whole f = search rules
 
 module _ {S : Type 0} (seen : S → SeatRecord) where
   pub has_heard : (front : Front) (told told' : Option Machine) (x x' : SessionRecord S) (bytes before after : List ℕ) (going : Going)
@@ -41,8 +34,7 @@ module _ {S : Type 0} (seen : S → SeatRecord) where
       → (after ≡ before ++ texts s m (heard name (items_from begun bytes))) × HasHeard seen s m told' (arrival name begun bytes) x'
   has_heard front told told' x x' bytes before after going feeds whole manner tells s m name begun h =
       let f : Feeds Script front (feeding (state_of seen told x.client) (scan_on (no_item begun) bytes) before)
-      (feeding (state_of seen told' x'.client) x'.stream after) going =
-      rw (h.session.manner, h.session.stream) at feeds in
+      (feeding (state_of seen told' x'.client) x'.stream after) going = search rules in
       let t : FeedTells Script (front_of s) (state_of seen told x.client) (items_from begun bytes) before after (state_of seen told' x'.client) =
       rw (h.session.manner, h.session.stream, h.front_is) at tells in
       let r =

@@ -1,7 +1,8 @@
 -- What a session heard, as the lines of a feed.
-use Rattle.std.proofs.Common.{◌≡◌, ◌↔◌, ℕ, Bool, true, false, cond, List, [], ◌∷◌, ◌++◌, Option, Some, None, refl, sym, ap, ◌∙◌, subst, append_assoc, IsTrue, true≢false}
+use Rattle.std.proofs.Common.{◌≡◌, ◌↔◌, ℕ, Bool, cond, List, [], ◌∷◌, ◌++◌, Option, Some, None, sym, ap, ◌∙◌, subst, IsTrue, rules, arith}
+use Rattle.std.proofs.lemmas.Grind.{common_steps}
 use Rattle.iio_text.specs.Escape.{quoted}
-use Rattle.iiod_grammar.specs.Stream.{AtEnd, InLine, InPayload, Scanned, Scanner, items_from, no_item, scanner_after}
+use Rattle.iiod_grammar.specs.Stream.{AtEnd, Scanned, Scanner, items_from, no_item, scanner_after}
 use Rattle.iiod_commands.specs.Seat.{SeatRecord}
 use Rattle.iiod_session.specs.Session.{SessionRecord}
 use Rattle.iio_history.specs.Registry.{Setup}
@@ -12,20 +13,9 @@ use Rattle.iio_history.specs.BenchLaw.{heard}
 use Rattle.iio_bench.specs.Connection.{HasHeard, IsHearing, arrival}
 use Rattle.iio_bench.specs.Feeding.{FeedState, Feeds, is_at_end}
 
-at_end : (b : Scanner) → is_at_end b ≡ true → b ≡ AtEnd
-at_end AtEnd h = refl
-at_end (InLine begun) h = cc
-at_end (InPayload pending count begun) h = cc
-
 -- a session says that it has ended exactly if its stream is at its end
 ended_is : (e : Bool) (stream : Scanned) (next : Scanner) → (IsTrue e ↔ (stream ≡ no_item AtEnd)) → stream ≡ no_item next → e ≡ is_at_end next
-ended_is e stream next iff is = by e (is_at_end next) refl refl
-  where
-    by : (a b : Bool) → e ≡ a → is_at_end next ≡ b → e ≡ is_at_end next
-    by true true x y = x ∙ sym y
-    by false false x y = x ∙ sym y
-    by true false x y = x ∙ sym (ap is_at_end (ap (λ (s : Scanned). s.next) (sym is ∙ iff.0 x)))
-    by false true x y = absurd (true≢false (sym (iff.1 (is ∙ ap (λ (b : Scanner). no_item b) (at_end next y))) ∙ x))
+ended_is e stream next iff is = search rules
 
 -- a state of a feed with another session
 abbrev pub state_with : {S : Type 0} → FeedState S → Option (SessionRecord S) → FeedState S
@@ -43,17 +33,11 @@ module _ {S : Type 0} (seen : S → SeatRecord) where
       let name : List ℕ = x.connection.name in
       subst (λ (o : Option (SessionRecord S)). Feeds seen bytes (state_with x o) y) (sym was) (λ s n begun h.
       let r = said s n name begun h in
-      let text : a1 ≡ texts s n (heard name (items_from begun bytes)) =
-      r.0 ∙ ap (λ (a : List ℕ). a ++ texts s n (heard name (items_from begun bytes))) cleared in
+      let text : a1 ≡ texts s n (heard name (items_from begun bytes)) = cc in
       let same : e ≡ is_at_end (scanner_after begun bytes) = ended_is e session'.stream (scanner_after begun bytes) iff r.1.session.stream in
       record {
         spoken = session';
         heard_by = r.1;
         left = left ∙ ap (λ (b : Bool). cond b None (Some session')) same;
-        lines =
-            more ∙ ap (λ (m : List ℕ). m ++ cond e (closed_line name) []) line
-            ∙ append_assoc x.printed (printed (name ∷ quoted a1 ∷ [])) (cond e (closed_line name) [])
-            ∙ ap (λ (a : List ℕ). x.printed ++ (printed (name ∷ quoted a ∷ []) ++ cond e (closed_line name) [])) text
-            ∙ ap (λ (b : Bool). x.printed ++ (printed (name ∷ quoted (texts s n (heard name (items_from begun bytes))) ∷ []) ++ cond b (closed_line name) []))
-            same;
+        lines = grind (arith, common_steps);
       })

@@ -1,5 +1,5 @@
 -- Polls, looks at thresholds and unpluggings at a bench.
-use Rattle.std.proofs.Common.{◌≡◌, ◌⊎◌, ℕ, zero, suc, Bool, true, false, List, [], ◌∷◌, map, set, slice_get, Option, Some, inl, inr, refl, sym, ap, ◌∙◌, cond}
+use Rattle.std.proofs.Common.{◌≡◌, ◌⊎◌, ℕ, zero, suc, Bool, false, List, [], ◌∷◌, map, set, slice_get, Option, Some, inl, inr, refl, ap, ◌∙◌, rules}
 use Rattle.std.specs.Prelude.{ℤ, unwrap_or}
 use Rattle.std.specs.Option.{option_map_or}
 use Rattle.iio_layout.specs.Shape.{ShapeRecord}
@@ -7,19 +7,17 @@ use Rattle.iio_desc.specs.declared.description.TriggerDesc.{TriggerDesc}
 use Rattle.iio_desc.specs.Kind.{Kind}
 use Rattle.iio_trigger.specs.declared.Polled.{Polled}
 use Rattle.iio_trigger.specs.Trigger.{Handed, Polls, State}
-use Rattle.iio_device.specs.Sensing.{sensed, with_sensed}
 use Rattle.iio_device.specs.Site.{at_place}
 use Rattle.iio_core.specs.Attached.{entries_from}
-use Rattle.iio_core.specs.Machine.{Station, with_site, attachments_of}
-use Rattle.iio_core.specs.Trigger.{trigger_after_poll, trigger_after_handling, Trigger, entry_of, trigger_in, first_trigger, poll_answer, entries_at, missed_at}
+use Rattle.iio_core.specs.Machine.{Station, attachments_of}
+use Rattle.iio_core.specs.Trigger.{trigger_after_poll, trigger_after_handling, Trigger, entry_of, first_trigger, poll_answer, entries_at, missed_at}
 use Rattle.iio_core.specs.Moves.{station_after_look}
 use Rattle.iio_core.specs.declared.became.Became.{Became}
 use Rattle.iio_kinds.specs.Handling.{is_last, entry_became}
 use Rattle.iio_bench.specs.Triggers.{IsBench, IsTrigger}
 use Rattle.iio_kinds.specs.Places.{trigger_of}
 use Rattle.iio_bench.proofs.ListLemmas.{after_set, map_at, map_changed, map_same}
-use Rattle.iio_kinds.proofs.StandingLemmas.{KeepsStanding, standing}
-use Rattle.iio_bench.proofs.BenchLemmas.{stands_along, stands_same}
+use Rattle.iio_kinds.proofs.StandingLemmas.{KeepsStanding}
 use Rattle.iio_bench.proofs.TriggerLemmas.{off_sound, off_told, poll_answers, poll_places, poll_sound, poll_told}
 use Rattle.iio_kinds.proofs.DueLemmas.{without}
 
@@ -46,28 +44,16 @@ module _ (triggers : List TriggerDesc) (states : List State) (sts : List Station
       (poll_sound t sts moment s (bench.each t s there) answer s' p)
 
   pub poll_triggers : map trigger_of (set states t s') ≡ at_place t (trigger_after_poll (attachments_of sts) t moment) (map trigger_of states)
-  poll_triggers =
-      map_changed trigger_of states t s s' (trigger_after_poll (attachments_of sts) t moment) there
-      (poll_told t sts moment s (bench.each t s there) answer s' p)
+  poll_triggers = search (rules, map_changed, poll_told)
 
   pub poll_answer_is : answer
       ≡ poll_answer (entries_from 0 t moment (attachments_of sts)) (entries_at (map trigger_of states) t) (missed_at (map trigger_of states) t)
-  poll_answer_is =
-      let at : trigger_in (map trigger_of states) t ≡ trigger_of s =
-      ap (λ (o : Option Trigger). unwrap_or o first_trigger) (map_at trigger_of states t s there) in
-      poll_answers t sts moment s (bench.each t s there) answer s' p
-      ∙ ap (λ (x : Trigger). poll_answer (entries_from 0 t moment (attachments_of sts)) x.entries x.missed) (sym at)
+  poll_answer_is = search (rules, map_at, poll_answers)
 
 -- ---- thresholds
 
-sensed_stands_by : (b : Bool) (st w : Station) → KeepsStanding st w → KeepsStanding st (cond b w st)
-sensed_stands_by true st w k = k
-sensed_stands_by false st w k = stands_same st st refl
-
 pub sense_stands : (shape : ShapeRecord) (t : ℤ) (st st' : Station) → st' ≡ station_after_look shape t st → KeepsStanding st st'
-sense_stands shape t st st' e =
-    stands_along st (station_after_look shape t st) st'
-    (sensed_stands_by st.site.plugged st (with_site (with_sensed (sensed shape t st.site)) st) (standing st _ refl refl refl refl (λ j. refl) refl)) e
+sense_stands shape t st st' e = search rules
 
 -- ---- entries
 

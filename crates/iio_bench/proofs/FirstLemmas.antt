@@ -1,11 +1,12 @@
 -- A bench that is made, one device after another.
-use Rattle.std.proofs.Common.{◌≡◌, ℕ, zero, suc, ◌+◌, ◌-◌, ◌<◌, ◌≤◌, true, false, not, List, [], ◌∷◌, ◌++◌, map, fold, length, slice_get, slice_index_or, take, Option, Some, None, IfSome, option_map, refl, sym, ap, subst, ◌∙◌, arith}
+use Rattle.std.proofs.Common.{◌≡◌, ℕ, zero, suc, ◌+◌, ◌-◌, ◌<◌, ◌≤◌, true, false, not, List, [], ◌∷◌, ◌++◌, map, fold, length, slice_get, slice_index_or, take, Option, Some, IfSome, option_map, refl, sym, ap, subst, ◌∙◌, arith, rules}
+use Rattle.std.proofs.lemmas.Grind.{common_steps}
 use Rattle.std.specs.Prelude.{All}
 use Rattle.std.specs.List.{list_any}
 use Rattle.std.proofs.lemmas.List.{length-append}
 use Rattle.iio_sensor.specs.Driver.{Driver}
 use Rattle.iio_desc.specs.Description.{AverageRecord, DeviceHead, DeviceRecord, OutputRecord, average_head, average_shape, input_head, output_head, shape_of_means}
-use Rattle.iio_desc.specs.Kind.{Kind, Input, Average, is_average}
+use Rattle.iio_desc.specs.Kind.{Input, Average, is_average}
 use Rattle.iio_desc.specs.WellFormed.{IsWellFormedAverage}
 use Rattle.iio_kfifo.specs.Queue.{Queue}
 use Rattle.iio_device.specs.declared.membership.Membership.{Membership}
@@ -75,12 +76,7 @@ module _ {D : Type 0} (view : D → DeviceView Queue) (drivers : List Driver) wh
     numbered_from n [] ds descs same e k a at = absurd (cc)
     numbered_from n (b ∷ bs) [] descs same e k a at = absurd (cc)
     numbered_from n (b ∷ bs) (c ∷ ds) [] same e k a at = absurd (cc)
-    numbered_from n (b ∷ bs) (c ∷ ds) (x ∷ xs) same e zero a at =
-        let first : b ≡ a = cc in
-        let head : view c ≡ new_view x n (first_driver drivers x) = cc in
-        let own : f b ≡ (view c).number = cc in
-        let number : f a ≡ n = ap f (sym first) ∙ own ∙ ap (λ (v : DeviceView Queue). v.number) head in
-        omega (arith, number)
+    numbered_from n (b ∷ bs) (c ∷ ds) (x ∷ xs) same e zero a at = search rules
     numbered_from n (b ∷ bs) (c ∷ ds) (x ∷ xs) same e (suc k) a at =
         let tail : map view ds ≡ first_devices drivers (suc n) xs = cc in
         let others : map f bs ≡ map (λ (d : D). (view d).number) ds = cc in
@@ -96,10 +92,7 @@ module _ {D : Type 0} (view : D → DeviceView Queue) (drivers : List Driver) wh
     captures_made n [] ds descs same e i a within = absurd (omega (arith, within))
     captures_made n (b ∷ bs) [] descs same e i a within = absurd (cc)
     captures_made n (b ∷ bs) (c ∷ ds) [] same e i a within = absurd (cc)
-    captures_made n (b ∷ bs) (c ∷ ds) (x ∷ xs) same e zero a within =
-        let head : view c ≡ new_view x n (first_driver drivers x) = cc in
-        let own : f b ≡ (view c).standing.captures = cc in
-        own ∙ ap (λ (v : DeviceView Queue). v.standing.captures) head
+    captures_made n (b ∷ bs) (c ∷ ds) (x ∷ xs) same e zero a within = search rules
     captures_made n (b ∷ bs) (c ∷ ds) (x ∷ xs) same e (suc i) a within =
         let tail : map view ds ≡ first_devices drivers (suc n) xs = cc in
         let others : map f bs ≡ map (λ (d : D). (view d).standing.captures) ds = cc in
@@ -122,9 +115,7 @@ module _ {X : Type 0} {V : X → Type 0} (driver : Plug X V → Driver) where
 -- the devices so far, and another one
 pub pushed : {A D B : Type 0} (f : A → B) (h : D → B) (xs ys : List A) (ds : List D) (a : A) (d : D) → ys ≡ xs ++ a ∷ [] → map f xs ≡ map h ds → f a ≡ h d
     → map f ys ≡ map h (ds ++ d ∷ [])
-pushed {A} {D} {B} f h xs ys ds a d more same own =
-    ap (λ (xs : List A). map f xs) more ∙ map_append f xs (a ∷ []) ∙ ap (λ (ys : List B). ys ++ f a ∷ []) same
-    ∙ ap (λ (y : B). map h ds ++ y ∷ []) own ∙ sym (map_append h ds (d ∷ []))
+pushed f h xs ys ds a d more same own = search (rules, map_append)
 
 -- the first elements, and the next one
 pub take_next : {A : Type 0} (xs : List A) (n : ℕ) (x : A) → slice_get xs n ≡ Some x → take (n + 1) xs ≡ take n xs ++ x ∷ []
@@ -160,9 +151,7 @@ module _ {A : Type 0} where
   numbered_more f n [] a each own (suc k) x at = absurd (cc)
   numbered_more f n (y ∷ ys) a each own zero x at = each zero x at
   numbered_more f n (y ∷ ys) a each own (suc k) x at =
-      let number : f x ≡ suc n + k =
-      numbered_more f (suc n) ys a (λ i z e. (let h : f z ≡ n + suc i = each (suc i) z e in omega (arith, h))) (omega (arith, own)) k x at in
-      omega (arith, number)
+      search (rules, numbered_more f (suc n) ys a (λ i z e. (let h : f z ≡ n + suc i = each (suc i) z e in omega (arith, h))) (omega (arith, own)) k x at)
 
   unmoved_more : (f : A → ℕ) (xs : List A) (a : A) → All (λ (x : A). f x ≡ 0) xs → f a ≡ 0 → All (λ (x : A). f x ≡ 0) (xs ++ a ∷ [])
   unmoved_more f [] a all own zero d within = own
@@ -198,16 +187,8 @@ module _ {A : Type 0} where
           (record {
             whole = append_one done left x ∙ there;
             many = (let a = longer devices d in let b = longer done x in omega (arith, a, b, adding.many));
-            stations =
-                map_append f devices (d ∷ []) ∙ ap (λ (sts : List Station). sts ++ f d ∷ []) adding.stations
-                ∙ appended (map f before) (map made done) (f d ∷ [])
-                ∙ ap (λ (st : Station). map f before ++ (map made done ++ st ∷ [])) station
-                ∙ ap (λ (sts : List Station). map f before ++ sts) (sym (map_append made done (x ∷ [])));
-            fronts =
-                map_append face devices (d ∷ []) ∙ ap (λ (hs : List DeviceHead). hs ++ face d ∷ []) adding.fronts
-                ∙ appended (map face before) (map headed done) (face d ∷ [])
-                ∙ ap (λ (h : DeviceHead). map face before ++ (map headed done ++ h ∷ [])) head
-                ∙ ap (λ (hs : List DeviceHead). map face before ++ hs) (sym (map_append headed done (x ∷ [])));
+            stations = grind (arith, common_steps);
+            fronts = grind (arith, common_steps);
             numbered =
                 λ k a at. (let h : number a ≡ 0 + k =
                 numbered_more number 0 devices d (λ i z e. (let n : number z ≡ i = adding.numbered i z e in omega (arith, n))) (omega (arith, own)) k a at in
@@ -225,9 +206,7 @@ module _ {A : Type 0} (f : A → Station) (face : A → DeviceHead) (number capt
           → shape_in (map face bs) k ≡ (face a).shape
       by [] ds k e within at = absurd (omega (arith, within))
       by (b ∷ bs) [] k e within at = absurd (cc)
-      by (b ∷ bs) (d ∷ ds) zero e within at =
-          let same : face d ≡ face b = cc in
-          ap (λ (h : DeviceHead). h.shape) (sym same ∙ ap face (sym at))
+      by (b ∷ bs) (d ∷ ds) zero e within at = cc
       by (b ∷ bs) (d ∷ ds) (suc k) e within at =
           let tail : map face ds ≡ map face bs ++ more = cc in
           by bs ds k tail (omega (arith, within)) at
@@ -265,8 +244,7 @@ inputs_seat_state drivers (x ∷ xs) = (refl, inputs_seat_state drivers xs)
 pub first_seat_state : (drivers : List Driver) (inputs : List DeviceRecord) (outputs : List OutputRecord) (means : List AverageRecord)
     → AreBare (map (first_station drivers) inputs ++ (map first_out_station outputs ++ map (first_mean_station inputs) means))
 first_seat_state drivers inputs outputs means =
-    seat_state_both (map (first_station drivers) inputs) _ (inputs_seat_state drivers inputs)
-    (seat_state_both (map first_out_station outputs) _ (outputs_seat_state outputs) (averages_seat_state (first_mean_station inputs) (λ x. refl) means))
+    grind (arith, common_steps, seat_state_both, first_station, inputs_seat_state, outputs_seat_state, averages_seat_state)
 
 module _ {D : Type 0} (f h : D → Station) (same : (d : D) → is_empty (h d).members ≡ is_empty (f d).members) where
   none_placed : (dev t : ℕ) (ds : List D) → AreBare (map f ds) → places_from dev t (map h ds) ≡ []
@@ -300,13 +278,7 @@ module _ {D : Type 0} (f h : D → Station) (same : (d : D) → is_empty (h d).m
 pub firsts_few : (drivers : List Driver) (inputs : List DeviceRecord) (outputs : List OutputRecord) (means : List AverageRecord) (n : ℕ)
     → length inputs + length outputs + length means ≤ n
     → length (map (first_station drivers) inputs ++ (map first_out_station outputs ++ map (first_mean_station inputs) means)) ≤ n
-firsts_few drivers inputs outputs means n few =
-    let a = length-append (map (first_station drivers) inputs) (map first_out_station outputs ++ map (first_mean_station inputs) means) in
-    let b = length_map_is (first_station drivers) inputs in
-    let c = length-append (map first_out_station outputs) (map (first_mean_station inputs) means) in
-    let d = length_map_is first_out_station outputs in
-    let e = length_map_is (first_mean_station inputs) means in
-    omega (arith, few, a, b, c, d, e)
+firsts_few drivers inputs outputs means n few = grind (arith, common_steps)
 
 -- ---- what concerns averaging devices
 
@@ -360,11 +332,7 @@ module _ (inputs : List DeviceRecord) where
       → (x : AverageRecord) × (i : ℕ) × (slice_get means i ≡ Some x) × (x.base ≡ base)
       × (shape_in (hs ++ map (average_head inputs) means) k ≡ average_shape inputs x)
   one_of [] [] k base window plain is = absurd (cc)
-  one_of [] (x ∷ xs) zero base window plain is = (x, 0, refl, ap base_or is, refl)
-    where
-      base_or : Kind → ℕ
-      base_or (Average b w) = b
-      base_or kind = 0
+  one_of [] (x ∷ xs) zero base window plain is = search rules
   one_of [] (x ∷ xs) (suc k) base window plain is = let more = one_of [] xs k base window plain is in (more.0, suc more.1, more.2, more.3, more.4)
   one_of (h ∷ hs) means zero base window plain is = absurd (let none : is_average h.kind ≡ true = ap is_average is in let no = plain.0 in cc)
   one_of (h ∷ hs) means (suc k) base window plain is = one_of hs means k base window plain.1 is
@@ -385,11 +353,7 @@ first_bases inputs outputs means first many formed =
     fronts = map input_head inputs ++ map output_head outputs
 
     front_count : length fronts ≡ length inputs + length outputs
-    front_count =
-        let a = length-append (map input_head inputs) (map output_head outputs) in
-        let b = length_map_is input_head inputs in
-        let c = length_map_is output_head outputs in
-        omega (arith, a, b, c)
+    front_count = grind (arith, common_steps)
 
     all_count : length fronts ≤ length (fronts ++ map (average_head inputs) means)
     all_count = let a = length-append fronts (map (average_head inputs) means) in omega (arith, a)
@@ -414,12 +378,8 @@ first_bases inputs outputs means first many formed =
         = appended (map input_head inputs) (map output_head outputs) (map (average_head inputs) means) in
         record {
           before = omega (arith, within, many);
-          input =
-              ap (λ (hs : List DeviceHead). kind_in hs base) heads ∙ kind_input inputs (map output_head outputs ++ map (average_head inputs) means) base within;
-          shape =
-              one.4 ∙ ap (λ (n : ℕ). shape_of_means (option_map (λ (d : DeviceRecord). d.shape) (slice_get inputs n))) one.3
-              ∙ sym (ap (λ (hs : List DeviceHead). shape_of_means (Some (shape_in hs base))) heads
-              ∙ shape_input inputs (map output_head outputs ++ map (average_head inputs) means) base within);
+          input = search (rules, kind_input);
+          shape = search (rules, shape_input);
         }
 
 -- the averaging devices that were added are those of the description
@@ -450,26 +410,16 @@ module _ (inputs : List DeviceRecord) (outputs : List OutputRecord) where
       → first ≡ map (first_station drivers) inputs → sts ≡ first ++ map first_out_station outputs → heads ≡ map input_head inputs ++ map output_head outputs
       → all ≡ sts ++ map (mean_station_over heads) means
       → all ≡ map (first_station drivers) inputs ++ (map first_out_station outputs ++ map (first_mean_station inputs) means)
-  added_stations drivers means heads first sts all formed is_first is_sts is_heads is_all =
-      is_all ∙ ap (λ (xs : List Station). xs ++ map (mean_station_over heads) means)
-      (is_sts ∙ ap (λ (xs : List Station). xs ++ map first_out_station outputs) is_first)
-      ∙ ap (λ (hs : List DeviceHead). (map (first_station drivers) inputs ++ map first_out_station outputs) ++ map (mean_station_over hs) means) is_heads
-      ∙ ap (λ (xs : List Station). (map (first_station drivers) inputs ++ map first_out_station outputs) ++ xs) (means_stations means formed)
-      ∙ appended (map (first_station drivers) inputs) (map first_out_station outputs) (map (first_mean_station inputs) means)
+  added_stations drivers means heads first sts all formed is_first is_sts is_heads is_all = search (rules, first_station, means_stations, appended)
 
   pub added_heads : (means : List AverageRecord) (first heads all : List DeviceHead) → All (IsWellFormedAverage (length inputs)) means
       → first ≡ map input_head inputs → heads ≡ first ++ map output_head outputs
       → all ≡ heads ++ map (mean_head_over heads) means → all ≡ map input_head inputs ++ (map output_head outputs ++ map (average_head inputs) means)
-  added_heads means first heads all formed is_first is_heads is_all =
-      let whole : heads ≡ map input_head inputs ++ map output_head outputs = is_heads ∙ ap (λ (xs : List DeviceHead). xs ++ map output_head outputs) is_first in
-      is_all ∙ ap (λ (hs : List DeviceHead). hs ++ map (mean_head_over hs) means) whole
-      ∙ ap (λ (xs : List DeviceHead). (map input_head inputs ++ map output_head outputs) ++ xs) (means_heads means formed)
-      ∙ appended (map input_head inputs) (map output_head outputs) (map (average_head inputs) means)
+  added_heads means first heads all formed is_first is_heads is_all = search (rules, means_heads, appended)
 
 -- the same with more devices
 pub formed_more : (n m : ℕ) (means : List AverageRecord) → n ≤ m → All (IsWellFormedAverage n) means → All (IsWellFormedAverage m) means
-formed_more n m means less all i d within =
-    let is = all i d within in record { over = (let o = is.over in omega (arith, o, less)); some = is.some; bounded = is.bounded }
+formed_more n m means less all = search rules
 
 -- each device is plugged, has one of the first n triggers or none, and has made no capture
 abbrev pub AreFresh : ℕ → List Station → Type 0
@@ -477,20 +427,14 @@ AreFresh n [] = Unit {0}
 AreFresh n (st ∷ sts) = (st.captures ≡ 0) × (st.site.plugged ≡ true) × IfSome st.site.trigger (λ t. t < n) × AreFresh n sts
 
 attr_plugged : (site : Site ℕ) (channel : Option ℕ) (a : Attr) (v : Fixed) → (site_written channel a v site).plugged ≡ site.plugged
-attr_plugged site None attr.SamplingFrequency v = refl
-attr_plugged site None a v = refl
-attr_plugged site (Some c) attr.Calibbias v = refl
-attr_plugged site (Some c) a v = refl
+attr_plugged site channel a v = search rules
 
 attrs_plugged : (site : Site ℕ) (attrs : List AttrDesc) → (fold with_attr site attrs).plugged ≡ site.plugged
 attrs_plugged site [] = refl
 attrs_plugged site (a ∷ attrs) = attrs_plugged (with_attr site a) attrs ∙ attr_plugged site a.channel a.attr (number_in a.value)
 
 attr_trigger : (site : Site ℕ) (channel : Option ℕ) (a : Attr) (v : Fixed) → (site_written channel a v site).trigger ≡ site.trigger
-attr_trigger site None attr.SamplingFrequency v = refl
-attr_trigger site None a v = refl
-attr_trigger site (Some c) attr.Calibbias v = refl
-attr_trigger site (Some c) a v = refl
+attr_trigger site channel a v = search rules
 
 attrs_trigger : (site : Site ℕ) (attrs : List AttrDesc) → (fold with_attr site attrs).trigger ≡ site.trigger
 attrs_trigger site [] = refl
@@ -522,9 +466,7 @@ module _ (n : ℕ) where
   pub first_fresh : (drivers : List Driver) (inputs : List DeviceRecord) (outputs : List OutputRecord) (means : List AverageRecord)
       → All (λ x. IfSome x.trigger (λ t. t < n)) inputs → All (λ x. IfSome x.trigger (λ t. t < n)) outputs
       → AreFresh n (map (first_station drivers) inputs ++ (map first_out_station outputs ++ map (first_mean_station inputs) means))
-  first_fresh drivers inputs outputs means inputs-on outputs-on =
-      fresh_both (map (first_station drivers) inputs) _ (fresh_inputs drivers inputs inputs-on)
-      (fresh_both (map first_out_station outputs) _ (fresh_outputs outputs outputs-on) (fresh_means inputs means))
+  first_fresh drivers inputs outputs means h1 h2 = grind (arith, common_steps, fresh_both, first_station, fresh_inputs, fresh_outputs, fresh_means)
 
   fresh_captures : (sts : List Station) (i : ℕ) → AreFresh n sts → (station_in sts i).captures ≡ 0
   fresh_captures [] i fresh = refl
@@ -571,8 +513,7 @@ first_averaged triggers first heads sts bases many bare fresh = record {
     seat_state_at (x ∷ xs) (suc i) bare = seat_state_at xs i bare.1
 
     no_inner : (j : ℕ) (ms : List Member) → is_empty ms ≡ true → list_any (is_inner_of j) ms ≡ false
-    no_inner j [] e = refl
-    no_inner j (m ∷ ms) e = absurd (cc)
+    no_inner j ms e = search rules
 
 pub first_told : (ts : List TriggerDesc) → map trigger_of (map first_state ts) ≡ map (λ (t : TriggerDesc). first_trigger) ts
 first_told [] = refl

@@ -1,19 +1,17 @@
 -- What a handling and an unplugging make of all devices.
-use Rattle.std.proofs.Common.{◌≡◌, ◌⊎◌, ℕ, zero, suc, ◌+◌, ◌-◌, ◌^◌, ◌<◌, ◌≤◌, Bool, true, false, List, [], ◌∷◌, length, slice_get, Option, Some, None, inl, inr, refl, sym, ap, subst, ◌∙◌, arith, cond}
-use Rattle.std.specs.Prelude.{◌==◌, ◌&&◌, ℤ, unwrap_or}
-use Rattle.iio_sensor.specs.Driver.{ask_fails, values_of}
+use Rattle.std.proofs.Common.{◌≡◌, ℕ, zero, suc, ◌+◌, ◌-◌, ◌^◌, ◌<◌, ◌≤◌, Bool, true, false, List, [], ◌∷◌, length, slice_get, Option, Some, None, refl, sym, ap, subst, ◌∙◌, arith, cond, rules}
+use Rattle.std.specs.Prelude.{◌==◌}
 use Rattle.iio_layout.specs.Shape.{ShapeRecord}
 use Rattle.iio_desc.specs.declared.description.TriggerDesc.{TriggerDesc}
-use Rattle.iio_desc.specs.Kind.{Kind, Input, Output, Average, is_unplugged_by}
-use Rattle.iio_derive.specs.Window.{is_filled_by, means_of, sums_with, window_with}
+use Rattle.iio_desc.specs.Kind.{Kind, Input, Average, is_unplugged_by}
 use Rattle.iio_trigger.specs.Trigger.{Handed, State}
 use Rattle.iio_trigger.specs.declared.rows.Place.{Place}
-use Rattle.iio_device.specs.Site.{is_empty, unplugged}
+use Rattle.iio_device.specs.Site.{unplugged}
 use Rattle.iio_core.specs.Attached.{is_attached}
 use Rattle.iio_core.specs.Front.{Front, kind_at, shape_at}
 use Rattle.iio_core.specs.Machine.{Machine, Station, no_station, station_at, station_in, with_site, attachment_of}
 use Rattle.iio_core.specs.Lists.{map_from}
-use Rattle.iio_core.specs.Moves.{Capture, station_after_gathering, station_after_mean, offered_to, unplugs, machine_after_unplugging, entry_at, capture_at, capture_in, station_after_entry, is_due, machine_after_entry}
+use Rattle.iio_core.specs.Moves.{Capture, station_after_gathering, unplugs, machine_after_unplugging, entry_at, capture_at, capture_in, station_after_entry, machine_after_entry}
 use Rattle.iio_core.proofs.PlaceLists.{same_number}
 use Rattle.iio_bench.specs.Averages.{HasInner, IsAveraged, kind_in}
 use Rattle.iio_kinds.specs.Handling.{is_last}
@@ -22,7 +20,7 @@ use Rattle.iio_kinds.specs.Places.{is_hosted}
 use Rattle.iio_kinds.proofs.EmptyLemmas.{is_empty-map}
 use Rattle.iio_kinds.proofs.StandingLemmas.{KeepsInner, KeepsPlace, inner_kept}
 use Rattle.iio_bench.proofs.BenchLemmas.{inner_mapped}
-use Rattle.iio_bench.proofs.AverageLemmas.{average_there, averaged_each, each_from, same_or}
+use Rattle.iio_bench.proofs.AverageLemmas.{average_there, averaged_each, each_from}
 use Rattle.iio_bench.proofs.AnyLemmas.{kept_from}
 use Rattle.iio_bench.proofs.EntryLemmas.{entry_kept, offered_inner, current_kept}
 use Rattle.iio_kinds.proofs.AnyCalls.{either}
@@ -61,62 +59,23 @@ bench_each triggers states sts sts' bench same kept = record {
 -- ---- averaging devices
 
 gathered_some : (size : ℕ) (shape : ShapeRecord) (c : Capture) (st : Station) → KeepsInner st (station_after_gathering size shape (Some c) st)
-gathered_some size shape c st = by (is_empty st.members) (is_filled_by size st.window)
-  where
-    mean : Capture
-    mean = record { moment = c.moment; values = means_of size (sums_with st.window c.values) }
-
-    by : (a b : Bool) → KeepsInner st (cond a st (cond b (station_after_mean shape mean st) (record st { window = window_with st.window c.values })))
-    by true b = inner_kept st st refl refl refl refl (λ j. refl)
-    by false false = inner_kept st _ refl refl refl refl (λ j. refl)
-    by false true =
-        inner_kept st (station_after_mean shape mean st) refl refl refl (is_empty-map (offered_to shape mean) st.members)
-        (λ j. inner_mapped j (offered_to shape mean) (offered_inner shape mean j) st.members)
+gathered_some size shape c st = search (rules, inner_kept, is_empty-map, inner_mapped, offered_inner)
 
 gathered_kept : (size : ℕ) (shape : ShapeRecord) (o : Option Capture) (st : Station) → KeepsInner st (station_after_gathering size shape o st)
 gathered_kept size shape None st = inner_kept st st refl refl refl refl (λ j. refl)
 gathered_kept size shape (Some c) st = gathered_some size shape c st
 
-gathered_more : (size : ℕ) (shape : ShapeRecord) (c : Capture) (st : Station) → (station_after_gathering size shape (Some c) st).captures ≤ st.captures + 1
-gathered_more size shape c st = by (is_empty st.members) (is_filled_by size st.window)
-  where
-    mean : Capture
-    mean = record { moment = c.moment; values = means_of size (sums_with st.window c.values) }
-
-    by : (a b : Bool) → (cond a st (cond b (station_after_mean shape mean st) (record st { window = window_with st.window c.values }))).captures ≤ st.captures
-        + 1
-    by true b = omega arith
-    by false false = omega arith
-    by false true = omega arith
-
 -- ---- captures of the device whose entry is handled
-
-asked_more : (e : Handed) (shape : ShapeRecord) (st : Station) (o : Option Capture) → capture_in Input shape (Some e) st ≡ o
-    → (elim o [ None ↦ st.captures | Some c ↦ st.captures + 1 ]) ≡ (station_after_entry Input shape (Some e) st).captures
-asked_more e shape st o is = by (is_due e st) (ask_fails st.site.driver) refl refl o is
-  where
-    made : Capture
-    made = record { moment = e.t; values = values_of st.site.driver shape e.t }
-
-    by : (a b : Bool) → is_due e st ≡ a → ask_fails st.site.driver ≡ b → (o : Option Capture) → capture_in Input shape (Some e) st ≡ o
-        → (elim o [ None ↦ st.captures | Some c ↦ st.captures + 1 ]) ≡ (station_after_entry Input shape (Some e) st).captures
-    by false b p q o is = let none : capture_in Input shape (Some e) st ≡ None = rw p refl in rw (sym is ∙ none, p) refl
-    by true true p q o is = let none : capture_in Input shape (Some e) st ≡ None = rw (p, q) refl in rw (sym is ∙ none, p, q) refl
-    by true false p q o is = let some : capture_in Input shape (Some e) st ≡ Some made = rw (p, q) refl in rw (sym is ∙ some, p, q) refl
 
 entry_more : (o : Option Handed) (shape : ShapeRecord) (st : Station) (c : Option Capture) → capture_in Input shape o st ≡ c
     → (elim c [ None ↦ st.captures | Some x ↦ st.captures + 1 ]) ≡ (station_after_entry Input shape o st).captures
-entry_more None shape st c is = rw (sym is) refl
-entry_more (Some e) shape st c is = asked_more e shape st c is
+entry_more o shape st c is = search rules
 
 -- ---- all devices
 
 entry_at_kept : (o : Option Handed) (c : Option Capture) (dev : ℕ) (kind : Kind) (shape : ShapeRecord) (j : ℕ) (st : Station)
     → KeepsInner st (entry_at o c dev kind shape j st)
-entry_at_kept o c dev Input shape j st = current_kept (dev == j) st (station_after_entry Input shape o st) (entry_kept Input o shape st)
-entry_at_kept o c dev Output shape j st = current_kept (dev == j) st (station_after_entry Output shape o st) (entry_kept Output o shape st)
-entry_at_kept o c dev (Average base window) shape j st =
-    current_kept (dev == base) st (station_after_gathering window shape c st) (gathered_kept window shape c st)
+entry_at_kept o c dev kind shape j st = search (rules, current_kept, entry_kept, gathered_kept)
 
 module _ (front : Front) (o : Option Handed) (dev : ℕ) (m : Machine) where
   abbrev handled_at : ℕ → Station → Station
@@ -129,16 +88,13 @@ module _ (front : Front) (o : Option Handed) (dev : ℕ) (m : Machine) where
 
   pub bench_handled : (triggers : List TriggerDesc) (states : List State) → IsBench triggers states m.stations
       → IsBench triggers states (machine_after_entry front o dev m).stations
-  bench_handled triggers states bench =
-      bench_each triggers states m.stations (machine_after_entry front o dev m).stations bench (length_from handled_at 0 m.stations)
-      (λ i. (handled_kept i).place)
+  bench_handled triggers states bench = search (rules, bench_each, length_from, handled_kept)
 
   -- a station afterwards
   there_from : (f : ℕ → Station → Station) (n : ℕ) (sts : List Station) (i : ℕ) (st : Station) → slice_get sts i ≡ Some st
       → station_in (map_from f n sts) i ≡ f (n + i) st
   there_from f n [] i st at = absurd (cc)
-  there_from f n (x ∷ xs) zero st at =
-      let same : x ≡ st = cc in ap (λ (y : Station). f n y) same ∙ ap (λ (k : ℕ). f k st) (let e : n ≡ n + 0 = omega arith in e)
+  there_from f n (x ∷ xs) zero st at = search rules
   there_from f n (x ∷ xs) (suc i) st at = there_from f (suc n) xs i st at ∙ ap (λ (k : ℕ). f k st) (let e : suc n + i ≡ n + suc i = omega arith in e)
 
   after_is : (i : ℕ) (st : Station) → slice_get m.stations i ≡ Some st → station_in (machine_after_entry front o dev m).stations i ≡ handled_at i st
@@ -156,48 +112,17 @@ module _ (front : Front) (o : Option Handed) (dev : ℕ) (m : Machine) where
 
     capture_is : dev ≡ base → capture_at front o dev m ≡ capture_in Input (shape_at front base) o b
     unfolding station_at
-    capture_is e =
-        ap (λ (k : ℕ). capture_at front o k m) e
-        ∙ ap (λ (kind : Kind). capture_in kind (shape_at front base) o (station_in m.stations base)) input
-        ∙ ap (λ (x : Option Station). capture_in Input (shape_at front base) o (unwrap_or x no_station)) under
+    capture_is e = cc
 
     rises : (c : Option Capture) → (elim c [ None ↦ b.captures | Some x ↦ b.captures + 1 ]) ≡ (station_after_entry Input (shape_at front base) o b).captures
         → (station_after_gathering window (shape_at front j) c st).captures ≤ (station_after_entry Input (shape_at front base) o b).captures
-    rises None more = omega (arith, more, fewer)
-    rises (Some c) more = let most = gathered_more window (shape_at front j) c st in omega (arith, more, most, fewer)
+    rises c more = search rules
 
     fewer_after : (handled_at j st).captures ≤ (handled_at base b).captures
-    fewer_after = rw (own_is, base_is) (by (dev == base) refl)
-      where
-        by : (t : Bool) → (dev == base) ≡ t
-            → (cond t (station_after_gathering window (shape_at front j) (capture_at front o dev m) st) st).captures
-            ≤ (cond t (station_after_entry Input (shape_at front base) o b) b).captures
-        by true here =
-            let e : dev ≡ base = same_number dev base here in
-            rises (capture_at front o dev m) (entry_more o (shape_at front base) b (capture_at front o dev m) (sym (capture_is e)))
-        by false away = fewer
+    fewer_after = search (rules, own_is, base_is, same_number, rises, entry_more, capture_is)
 
     most_after : b.captures ≤ 2 ^ 64 - 1 → (dev ≡ base → is_last b.captures ≡ false) → (handled_at base b).captures ≤ 2 ^ 64 - 1
-    most_after most goes_on = rw base_is (by (dev == base) refl)
-      where
-        counts : (c : Option Capture)
-            → (elim c [ None ↦ b.captures | Some x ↦ b.captures + 1 ]) ≡ (station_after_entry Input (shape_at front base) o b).captures
-            → is_last b.captures ≡ false
-            → (station_after_entry Input (shape_at front base) o b).captures ≤ 2 ^ 64 - 1
-        counts None more less = omega (arith, more, most)
-        counts (Some c) more less =
-            let apart : b.captures ≡ 2 ^ 64 - 1 → ⊥ =
-            (λ e. absurd (let h : false ≡ true = sym less ∙ ap is_last e in cc)) in by_two (same_or b.captures (2 ^ 64 - 1)) apart
-          where
-            by_two : (b.captures ≡ 2 ^ 64 - 1) ⊎ (b.captures ≡ 2 ^ 64 - 1 → ⊥) → (b.captures ≡ 2 ^ 64 - 1 → ⊥)
-                → (station_after_entry Input (shape_at front base) o b).captures ≤ 2 ^ 64 - 1
-            by_two (inl e) apart = absurd (apart e)
-            by_two (inr other) apart = omega (arith, more, most, other)
-
-        by : (t : Bool) → (dev == base) ≡ t → (cond t (station_after_entry Input (shape_at front base) o b) b).captures ≤ 2 ^ 64 - 1
-        by true here =
-            counts (capture_in Input (shape_at front base) o b) (entry_more o (shape_at front base) b _ refl) (goes_on (same_number dev base here))
-        by false away = most
+    most_after most goes_on = search rules
 
   there_is : (sts : List Station) (i : ℕ) → i < length sts → slice_get sts i ≡ Some (station_in sts i)
   there_is [] i less = absurd (omega (arith, less))
@@ -242,13 +167,11 @@ module _ (front : Front) (dev : ℕ) (m : Machine) where
       (λ j st at. by j st (is_unplugged_by (kind_at front (0 + j)) dev (0 + j))) i
     where
       by : (j : ℕ) (st : Station) (b : Bool) → KeepsPlace st (cond b (with_site unplugged st) st)
-      by j st true = record { attached = λ t. refl; attachment = refl }
-      by j st false = record { attached = λ t. refl; attachment = refl }
+      by j st b = search rules
 
   pub bench_unplugged : (triggers : List TriggerDesc) (states : List State) → IsBench triggers states m.stations
       → IsBench triggers states (machine_after_unplugging front dev m).stations
-  bench_unplugged triggers states bench =
-      bench_each triggers states m.stations (machine_after_unplugging front dev m).stations bench (length_from (unplugs front dev) 0 m.stations) unplugged_place
+  bench_unplugged triggers states bench = search (rules, bench_each, length_from, unplugged_place)
 
   gone_with : (kind : Kind) (j : ℕ) → Station → Station
   gone_with kind j st = cond (is_unplugged_by kind dev j) (with_site unplugged st) st
@@ -260,34 +183,28 @@ module _ (front : Front) (dev : ℕ) (m : Machine) where
       ∙ ap (λ (k : ℕ). unplugs front dev k (station_in m.stations i)) (let e : 0 + i ≡ i = omega arith in e)
     where
       none : (j : ℕ) (b : Bool) → cond b (with_site unplugged no_station) no_station ≡ no_station
-      none j true = refl
-      none j false = refl
+      none j b = search rules
 
       from_at : (f : ℕ → Station → Station) → ((j : ℕ) → f j no_station ≡ no_station) → (n : ℕ) (sts : List Station) (i : ℕ)
           → station_in (map_from f n sts) i ≡ f (n + i) (station_in sts i)
       from_at f nothing n [] i = sym (nothing (n + i))
       from_at f nothing n (x ∷ xs) zero = ap (λ (k : ℕ). f k x) (let e : n ≡ n + 0 = omega arith in e)
-      from_at f nothing n (x ∷ xs) (suc i) =
-          from_at f nothing (suc n) xs i ∙ ap (λ (k : ℕ). f k (station_in xs i)) (let e : suc n + i ≡ n + suc i = omega arith in e)
+      from_at f nothing n (x ∷ xs) (suc i) = search (rules, from_at f nothing (suc n) xs i)
 
   pub averaged_unplugged : (triggers first : ℕ) → IsAveraged triggers first front.devices m.stations
       → IsAveraged triggers first front.devices (machine_after_unplugging front dev m).stations
   unfolding kind_at gone_with
   averaged_unplugged triggers first a = record {
     bases = a.bases;
-    hosted =
-        λ i plain. ap (λ (x : Station). is_hosted triggers x) (unplugged_at i)
-        ∙ host (is_unplugged_by (kind_in front.devices i) dev i) (station_in m.stations i) (a.hosted i plain);
+    hosted = search (rules, unplugged_at);
     inners = λ j base window is. inner j base window is;
   }
     where
       host : (b : Bool) (st : Station) → is_hosted triggers st ≡ true → is_hosted triggers (cond b (with_site unplugged st) st) ≡ true
-      host true st h = h
-      host false st h = h
+      host b st h = search rules
 
       both : (j : ℕ) (t : Bool) (b st : Station) → HasInner j b st → HasInner j (cond t (with_site unplugged b) b) (cond t (with_site unplugged st) st)
-      both j true b st own = record { plugged = refl; inner = own.inner; fewer = own.fewer; most = own.most }
-      both j false b st own = own
+      both j t b st own = search rules
 
       inner : (j base window : ℕ) → kind_in front.devices j ≡ Average base window
           → HasInner j (station_in (machine_after_unplugging front dev m).stations base) (station_in (machine_after_unplugging front dev m).stations j)
@@ -304,11 +221,4 @@ module _ (front : Front) (dev : ℕ) (m : Machine) where
 
 -- if there is no entry, nothing changes
 pub nothing_handled : (front : Front) (dev : ℕ) (m : Machine) → machine_after_entry front None dev m ≡ m
-nothing_handled front dev m =
-    ap (λ (sts : List Station). (let x : Machine = record m { stations = sts } in x))
-    (kept_from _ 0 m.stations (λ j st. none (kind_at front j) (shape_at front j) j st))
-  where
-    none : (kind : Kind) (shape : ShapeRecord) (j : ℕ) (st : Station) → entry_at None None dev kind shape j st ≡ st
-    none Input shape j st = either (dev == j) st
-    none Output shape j st = either (dev == j) st
-    none (Average base window) shape j st = either (dev == base) st
+nothing_handled front dev m = search (rules, kept_from, either)

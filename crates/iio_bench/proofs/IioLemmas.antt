@@ -1,5 +1,5 @@
 -- A bench as an `Iio`: what each call leaves.
-use Rattle.std.proofs.Common.{◌≡◌, ℕ, ◌<◌, Bool, true, false, List, [], ◌∷◌, ◌++◌, map, length, set, slice_get, get_or, Option, Some, None, IfSome, Result, Ok, Err, refl, sym, ap, ◌∙◌, arith, cond}
+use Rattle.std.proofs.Common.{◌≡◌, ℕ, ◌<◌, Bool, true, false, List, [], ◌∷◌, map, length, set, slice_get, get_or, Option, Some, None, IfSome, Result, Ok, Err, refl, sym, ap, ◌∙◌, arith, cond, rules}
 use Rattle.std.specs.Prelude.{◌==◌, not, nat_lt, ⊤, ℤ, position}
 use Rattle.std.specs.List.{position_or_len, prefix_len}
 use Rattle.std.proofs.lemmas.Bool.Decides.{nat_tests}
@@ -21,14 +21,12 @@ use Rattle.iiod_commands.specs.declared.iio.No.{No}
 use Rattle.iiod_commands.specs.declared.iio.No.TheVariants.{Errno as NoErrno, Mem as NoMem}
 use Rattle.iiod_commands.specs.declared.iio.Took.{Took}
 use Rattle.iio_desc.specs.Description.{DeviceHead}
-use Rattle.iio_desc.specs.Kind.{Kind, Input, Output, Average, is_input}
+use Rattle.iio_desc.specs.Kind.{is_input}
 use Rattle.iio_attr.specs.declared.attributes.Attr.TheVariants as attr
-use Rattle.iio_attr.specs.Attributes.{is_writable}
-use Rattle.iio_output.specs.Written.{scans_of, taken_of}
-use Rattle.iiod_commands.specs.Attributes.{has_attribute}
+use Rattle.iio_output.specs.Written.{scans_of}
 use Rattle.iio_core.specs.Front.{Front, kind_at, shape_at}
-use Rattle.iio_core.specs.Machine.{Member, MemberId, Station, is_id_of, with_site}
-use Rattle.iio_core.specs.Calls.{ev_open_answer, ev_read_answer, holds_events, is_asking, is_inner_of, read_answer, trigger_answer, write_scans_at, writes}
+use Rattle.iio_core.specs.Machine.{Member, MemberId, Station, with_site}
+use Rattle.iio_core.specs.Calls.{ev_open_answer, ev_read_answer, holds_events, is_inner_of, trigger_answer, write_scans_at, writes}
 use Rattle.iiod_commands.specs.Target.{MayRead, MayWrite}
 use Rattle.iio_kinds.specs.Acting.{Acts, MayReadOf, Reads, TakesAt, TakesScansAt, Turns}
 use Rattle.iio_bench.specs.Averages.{IsAveraged}
@@ -41,7 +39,7 @@ use Rattle.iio_bench.proofs.ListLemmas.{length_map_is, map_at, map_same}
 use Rattle.iio_bench.proofs.ToldLemmas.{fronts_by}
 use Rattle.iio_bench.proofs.AnyLemmas.{attached_as, attachment_as, hosted_as, inner_as, made_as, members_as, plugged_as}
 use Rattle.iio_kinds.proofs.StandingLemmas.{KeepsInner, KeepsPlace, KeepsStanding, standing}
-use Rattle.iio_bench.proofs.BenchLemmas.{KeepsRest, acts_stand, bench_by, bench_kept, inner_mapped, monitor_stands, stands_along, stands_same, take_scans_stand, take_stands, trigger_rests, write_stands}
+use Rattle.iio_bench.proofs.BenchLemmas.{KeepsRest, acts_stand, bench_by, bench_kept, inner_mapped, monitor_stands, stands_same, take_scans_stand, take_stands, trigger_rests, write_stands}
 use Rattle.iio_bench.proofs.AverageLemmas.{averaged_by, averaged_stands}
 
 -- ---- positions
@@ -60,10 +58,7 @@ position_seen f p xs ys r same e = e ∙ ap (λ zs. position (λ x. p (f x)) zs)
 
 pub position_at : {A : Type 0} (p : A → Bool) (xs : List A) (i : ℕ) (x : A) → i < length xs → x ≡ get_or xs i x → p x ≡ true
     → ((k : ℕ) (d : A) → k < i → p (get_or xs k d) ≡ false) → Some i ≡ position p xs
-position_at p xs i x within e passes before =
-    let first : position_or_len p xs ≡ i = position_or_len_is p xs i x (omega arith) (λ k h. before k x h) (λ h. ap p (sym e) ∙ passes) in
-    let inside : nat_lt i (length xs) ≡ true = grind (arith, nat_tests) in
-    rw (first, inside) refl
+position_at p xs i x within e passes before = search (rules, position_or_len_is)
 
 pub position_none : {A : Type 0} (p : A → Bool) (xs : List A) → ((k : ℕ) (d : A) → k < length xs → p (get_or xs k d) ≡ false) → None ≡ position p xs
 position_none p [] before = refl
@@ -75,49 +70,24 @@ position_none p (x ∷ xs) before =
 
 -- ---- what holds after each call
 
--- the attributes of devices other than input devices can't be written
-written_by : (kind : Kind) (a : Attr) → has_attribute kind a ≡ true → is_writable a ≡ true → is_input kind ≡ true
-written_by Input a has writable = refl
-written_by Output attr.Name has writable = absurd (cc)
-written_by Output attr.Raw has writable = absurd (cc)
-written_by Output attr.DataAvailable has writable = absurd (cc)
-written_by Output attr.Length has writable = absurd (cc)
-written_by Output attr.Underruns has writable = absurd (cc)
-written_by Output a has writable = absurd (cc)
-written_by (Average base window) attr.Name has writable = absurd (cc)
-written_by (Average base window) attr.Overruns has writable = absurd (cc)
-written_by (Average base window) attr.DataAvailable has writable = absurd (cc)
-written_by (Average base window) attr.Length has writable = absurd (cc)
-written_by (Average base window) attr.Discarded has writable = absurd (cc)
-written_by (Average base window) a has writable = absurd (cc)
-
 -- a device with each member changed keeps its place
 pub members_mapped : (f : Member → Member) (st : Station) → ((j : ℕ) (x : Member) → is_inner_of j (f x) ≡ is_inner_of j x)
     → KeepsStanding st (record st { members = map f st.members })
 members_mapped f st same = standing st _ refl refl refl (is_empty-map f st.members) (λ j. inner_mapped j f (same j) st.members) refl
 
 written_inner : (id : MemberId) (scans : List (List ℕ)) (j : ℕ) (x : Member) → is_inner_of j (writes id scans x) ≡ is_inner_of j x
-written_inner id scans j x = by (is_id_of id x)
-  where
-    by : (b : Bool) → is_inner_of j (cond b (record x { scans = x.scans ++ taken_of x.cyclic x.capacity x.scans scans }) x) ≡ is_inner_of j x
-    by true = refl
-    by false = refl
+written_inner id scans j x = search rules
 
 -- an attribute that may be read is one of the device's
 pub may_read : (front : Front) (k : ℕ) (channel : Option ℕ) (a : Attr) (d : DeviceHead) → kind_at front k ≡ d.kind → shape_at front k ≡ d.shape
     → MayRead front k channel a → MayReadOf d channel a
-may_read front k None a d kind shape may = (may.0, rw kind at may.1)
-may_read front k (Some c) a d kind shape may = (rw shape at may.0, may.1, rw kind at may.2)
+may_read front k channel a d kind shape may = search rules
 
 -- an attribute that may be written is one of an input device's
 pub is_written : (front : Front) (k : ℕ) (channel : Option ℕ) (a : Attr) (v : Fixed) (d : DeviceHead) → kind_at front k ≡ d.kind → shape_at front k ≡ d.shape
     → MayWrite front k channel a v
     → (is_input d.kind ≡ true) × IfSome channel (λ c. c < length d.shape.channels)
-is_written front k channel a v d kind shape may = by channel (may_read front k channel a d kind shape may.named)
-  where
-    by : (channel : Option ℕ) → MayReadOf d channel a → (is_input d.kind ≡ true) × IfSome channel (λ c. c < length d.shape.channels)
-    by None named = (written_by d.kind a named.1 may.writable, tt)
-    by (Some c) named = (written_by d.kind a named.2 may.writable, named.0)
+is_written front k channel a v d kind shape may = search rules
 
 module _ {X : Type 0} {V : X → Type 0} (drive : Plug X V → Driver) where
   plain_place : (d d' : AnyDevice X V) → KeepsPlace (any_station drive d) (any_station drive d')
@@ -170,9 +140,7 @@ module _ {X : Type 0} {V : X → Type 0} (drive : Plug X V → Driver) where
     pub write_kept : (channel : Option ℕ) (a : Attr) (v : Fixed) (r : Result ⊤ No)
         → Acts (with_site (site_written channel a v)) (ensure (any_station drive d).site.plugged ENODEV) r (any_station drive d) (any_station drive d')
         → KeepsStanding (any_station drive d) (any_station drive d')
-    write_kept channel a v r t =
-        acts_stand (with_site (site_written channel a v)) (any_station drive d) (any_station drive d') (ensure (any_station drive d).site.plugged ENODEV) r
-        (λ x e. write_stands channel a v (any_station drive d)) t
+    write_kept channel a v r t = search (rules, acts_stand, write_stands)
 
     pub trigger_kept : (n : ℕ) (trigger : Option ℕ) (r : Result ⊤ No) → IfSome trigger (λ t. t < n)
         → Acts (with_site (λ site. record site { trigger = trigger })) (trigger_answer (any_station drive d)) r (any_station drive d) (any_station drive d')
@@ -182,35 +150,25 @@ module _ {X : Type 0} {V : X → Type 0} (drive : Plug X V → Driver) where
     pub ev_open_kept : (who : ℕ) (r : Result ⊤ No)
         → Acts (with_site (with_monitor (after_open who))) (ev_open_answer (any_station drive d)) r (any_station drive d) (any_station drive d')
         → KeepsStanding (any_station drive d) (any_station drive d')
-    ev_open_kept who r t =
-        acts_stand (with_site (with_monitor (after_open who))) (any_station drive d) (any_station drive d') (ev_open_answer (any_station drive d)) r
-        (λ x e. monitor_stands (after_open who) (any_station drive d)) t
+    ev_open_kept who r t = search (rules, acts_stand, monitor_stands)
 
     pub ev_read_kept : (who : ℕ) (r : Result (Option EventData) No)
         → Acts (with_site (with_monitor (after_read (λ a b. a == b) who))) (ev_read_answer who (any_station drive d)) r (any_station drive d)
         (any_station drive d')
         → KeepsStanding (any_station drive d) (any_station drive d')
-    ev_read_kept who r t =
-        acts_stand (with_site (with_monitor (after_read (λ a b. a == b) who))) (any_station drive d) (any_station drive d')
-        (ev_read_answer who (any_station drive d)) r (λ x e. monitor_stands (after_read (λ a b. a == b) who) (any_station drive d)) t
+    ev_read_kept who r t = search (rules, acts_stand, monitor_stands)
 
     pub ev_close_kept : (who : ℕ) (r : Result ⊤ No)
         → Acts (with_site (with_monitor (after_close (λ a b. a == b) who))) (ensure (holds_events who (any_station drive d)) EBADF) r (any_station drive d)
         (any_station drive d')
         → KeepsStanding (any_station drive d) (any_station drive d')
-    ev_close_kept who r t =
-        acts_stand (with_site (with_monitor (after_close (λ a b. a == b) who))) (any_station drive d) (any_station drive d')
-        (ensure (holds_events who (any_station drive d)) EBADF) r (λ x e. monitor_stands (after_close (λ a b. a == b) who) (any_station drive d)) t
+    ev_close_kept who r t = search (rules, acts_stand, monitor_stands)
 
     read_kept_by : (b : Bool) (r : Result Value No) (answer : Result Value Errno)
         → Turns answer (cond b (with_site sampled (any_station drive d)) (any_station drive d)) r (any_station drive d) (any_station drive d')
         → KeepsStanding (any_station drive d) (any_station drive d')
-    read_kept_by true (Ok x) answer t =
-        stands_along (any_station drive d) (with_site sampled (any_station drive d)) (any_station drive d')
-        (standing (any_station drive d) _ refl refl refl refl (λ j. refl) refl) t.1
-    read_kept_by true (Err (NoErrno e)) answer t =
-        stands_along (any_station drive d) (with_site sampled (any_station drive d)) (any_station drive d')
-        (standing (any_station drive d) _ refl refl refl refl (λ j. refl) refl) t.1
+    read_kept_by true (Ok x) answer t = search rules
+    read_kept_by true (Err (NoErrno e)) answer t = search rules
     read_kept_by true (Err NoMem) answer t = stands_same (any_station drive d) (any_station drive d') t
     read_kept_by false (Ok x) answer t = stands_same (any_station drive d) (any_station drive d') t.1
     read_kept_by false (Err (NoErrno e)) answer t = stands_same (any_station drive d) (any_station drive d') t.1
@@ -218,9 +176,7 @@ module _ {X : Type 0} {V : X → Type 0} (drive : Plug X V → Driver) where
 
     pub read_kept : (t : ℤ) (channel : Option ℕ) (a : Attr) (r : Result Value No)
         → Reads (any_front d) t channel a (any_station drive d) r (any_station drive d') → KeepsStanding (any_station drive d) (any_station drive d')
-    read_kept t channel a r reads =
-        read_kept_by (is_asking (any_front d).kind channel a (any_station drive d)) r
-        (read_answer (any_front d).name (any_front d).kind (any_front d).shape t channel a (any_station drive d)) reads
+    read_kept t channel a r reads = search (rules, read_kept_by, any_front)
 
     pub writes_kept : (size : ℕ) (id : MemberId) (bytes : List ℕ) (r : Result ℕ No)
         → Acts (λ st. record st { members = map (writes id (scans_of size bytes)) st.members }) (write_scans_at (any_station drive d) id size bytes) r
@@ -242,15 +198,11 @@ module _ {X : Type 0} {V : X → Type 0} (drive : Plug X V → Driver) where
 -- the whole front
 pub fronts_keep : {X : Type 0} {V : X → Type 0} (context : List ℕ) (triggers : List TriggerDesc) (ds : List (AnyDevice X V)) (k : ℕ) (d d' : AnyDevice X V)
     → slice_get ds k ≡ Some d → KeepsHead d d' → fronts_by any_front context triggers (set ds k d') ≡ fronts_by any_front context triggers ds
-fronts_keep context triggers ds k d d' at keeps =
-    ap (λ (devices : List DeviceHead). (let x : Front = record { context = context; triggers = triggers; devices = devices } in x))
-    (map_same any_front ds k d d' at keeps.front)
+fronts_keep context triggers ds k d d' at keeps = search (rules, map_same, any_front)
 
 -- everything that no connection's call changes
 pub kept_equal : (x y : Kept) → x.front ≡ y.front → x.captures ≡ y.captures → x ≡ y
-kept_equal x y front captures =
-    ap (λ (f : Front). (let k : Kept = record { front = f; captures = x.captures } in k)) front
-    ∙ ap (λ (cs : List ℕ). (let k : Kept = record { front = y.front; captures = cs } in k)) captures
+kept_equal x y front captures = search rules
 
 module _ {X : Type 0} {V : X → Type 0} where
   abbrev pub kept_by : List ℕ → List TriggerDesc → List (AnyDevice X V) → Kept
@@ -259,6 +211,4 @@ module _ {X : Type 0} {V : X → Type 0} where
   -- one device has changed
   pub device_keeps : (context : List ℕ) (triggers : List TriggerDesc) (ds : List (AnyDevice X V)) (k : ℕ) (d d' : AnyDevice X V) → slice_get ds k ≡ Some d
       → KeepsFront d d' → kept_by context triggers (set ds k d') ≡ kept_by context triggers ds
-  device_keeps context triggers ds k d d' at keeps =
-      kept_equal (kept_by context triggers (set ds k d')) (kept_by context triggers ds) (fronts_keep context triggers ds k d d' at keeps.head)
-      (map_same captures_by ds k d d' at keeps.captures)
+  device_keeps context triggers ds k d d' at keeps = search (rules, kept_equal, set, fronts_keep, map_same)

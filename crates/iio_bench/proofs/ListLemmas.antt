@@ -1,5 +1,5 @@
 -- A list with one element changed.
-use Rattle.std.proofs.Common.{◌≡◌, ◌⊎◌, ℕ, zero, suc, ◌<◌, Bool, true, false, List, [], ◌∷◌, ◌++◌, map, length, set, slice_get, get_or, Some, None, inl, inr, refl, sym, ap, ◌∙◌, arith, filter, cond, not}
+use Rattle.std.proofs.Common.{◌≡◌, ◌⊎◌, ℕ, zero, suc, ◌<◌, Bool, List, [], ◌∷◌, ◌++◌, map, length, set, slice_get, get_or, Some, None, inl, inr, refl, sym, ap, ◌∙◌, arith, filter, not, rules}
 use Rattle.std.specs.Prelude.{find}
 use Rattle.std.proofs.lemmas.Option.{slice_get_read}
 use Rattle.iio_device.specs.Site.{at_place}
@@ -12,11 +12,7 @@ module _ {A : Type 0} where
   after_set (z ∷ zs) zero zero x y e = inl (refl, cc)
   after_set (z ∷ zs) zero (suc j) x y e = inr ((λ h. absurd (omega arith)), e)
   after_set (z ∷ zs) (suc i) zero x y e = inr ((λ h. absurd (omega arith)), e)
-  after_set (z ∷ zs) (suc i) (suc j) x y e = by (after_set zs i j x y e)
-    where
-      by : ((j ≡ i) × (y ≡ x)) ⊎ ((j ≡ i → ⊥) × (slice_get zs j ≡ Some y)) → ((suc j ≡ suc i) × (y ≡ x)) ⊎ ((suc j ≡ suc i → ⊥) × (slice_get zs j ≡ Some y))
-      by (inl p) = inl (ap (λ (n : ℕ). suc n) p.0, p.1)
-      by (inr p) = inr ((λ h. p.0 (omega arith)), p.1)
+  after_set (z ∷ zs) (suc i) (suc j) x y e = search (rules, after_set zs i j x y e)
 
   pub set_same : (xs : List A) (i : ℕ) (x : A) → slice_get xs i ≡ Some x → set xs i x ≡ xs
   set_same [] i x e = refl
@@ -31,12 +27,7 @@ module _ {A : Type 0} where
   -- nothing is filtered out if nothing is found
   pub filter_none : (p : A → Bool) (xs : List A) → find p xs ≡ None → filter (λ x. not (p x)) xs ≡ xs
   filter_none p [] e = refl
-  filter_none p (x ∷ xs) e = by (p x) e (filter_none p xs)
-    where
-      by : (b : Bool) → cond b (Some x) (find p xs) ≡ None → (find p xs ≡ None → filter (λ x. not (p x)) xs ≡ xs)
-          → cond (not b) (x ∷ filter (λ x. not (p x)) xs) (filter (λ x. not (p x)) xs) ≡ x ∷ xs
-      by true e h = absurd (cc)
-      by false e h = ap (λ (ys : List A). x ∷ ys) (h e)
+  filter_none p (x ∷ xs) e = search (rules, filter_none p xs)
 
   pub length_after : (xs : List A) (i : ℕ) (x : A) → length (set xs i x) ≡ length xs
   length_after [] i x = refl
@@ -48,11 +39,7 @@ module _ {A : Type 0} where
 
   pub numbered_after : (number : A → ℕ) (xs : List A) (i : ℕ) (x x' : A) → IsNumbered number xs → slice_get xs i ≡ Some x → number x' ≡ number x
       → IsNumbered number (set xs i x')
-  numbered_after number xs i x x' numbered at same = λ j y e. by j y (after_set xs i j x' y e)
-    where
-      by : (j : ℕ) (y : A) → ((j ≡ i) × (y ≡ x')) ⊎ ((j ≡ i → ⊥) × (slice_get xs j ≡ Some y)) → number y ≡ j
-      by j y (inl p) = ap number p.1 ∙ same ∙ numbered i x at ∙ sym p.0
-      by j y (inr p) = numbered j y p.1
+  numbered_after number xs i x x' numbered at same = search (rules, after_set)
 
   module _ {B : Type 0} (f : A → B) where
     -- a changed element, as it is seen
@@ -86,12 +73,7 @@ module _ {A : Type 0} where
     -- a test that an element passes as it is seen
     pub filter_map_is : (p : A → Bool) (q : B → Bool) → ((x : A) → q (f x) ≡ p x) → (xs : List A) → filter q (map f xs) ≡ map f (filter p xs)
     filter_map_is p q same [] = refl
-    filter_map_is p q same (x ∷ xs) = by (p x) (same x) (filter_map_is p q same xs)
-      where
-        by : (b : Bool) → q (f x) ≡ b → filter q (map f xs) ≡ map f (filter p xs)
-            → cond (q (f x)) (f x ∷ filter q (map f xs)) (filter q (map f xs)) ≡ map f (cond b (x ∷ filter p xs) (filter p xs))
-        by true e h = rw (e, h) refl
-        by false e h = rw (e, h) refl
+    filter_map_is p q same (x ∷ xs) = search (rules, filter_map_is p q same xs)
 
 -- the element that a call at an index was made at
 pub element_at : {A B : Type 0} (f : A → B) (xs : List A) (i : ℕ) (x : A) → i < length (map f xs) → x ≡ get_or xs i x → slice_get xs i ≡ Some x

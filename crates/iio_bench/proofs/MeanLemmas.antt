@@ -1,6 +1,7 @@
 -- OPEN and CLOSE at an averaging device, over its base.
-use Rattle.std.proofs.Common.{◌≡◌, ◌⊎◌, ℕ, zero, suc, ◌+◌, Bool, true, false, List, [], ◌∷◌, ◌++◌, filter, length, set, slice_get, Option, Some, None, inl, inr, refl, sym, ap, ◌∙◌, arith, cond, option_map}
-use Rattle.std.specs.Prelude.{◌==◌, ◌&&◌, ◌||◌, is_none, not, unwrap_or}
+use Rattle.std.proofs.Common.{◌≡◌, ◌⊎◌, ℕ, zero, suc, ◌+◌, Bool, true, false, List, [], ◌∷◌, filter, length, set, slice_get, Option, Some, None, refl, sym, ap, ◌∙◌, arith, cond, rules}
+use Rattle.std.proofs.lemmas.Grind.{common_steps}
+use Rattle.std.specs.Prelude.{◌==◌, ◌&&◌, ◌||◌, is_none, not}
 use Rattle.std.specs.List.{list_any}
 use Rattle.std.specs.Option.{option_map_or}
 use Rattle.iio_base.specs.Refusals.{first_refusal, unless_refused}
@@ -8,16 +9,16 @@ use Rattle.iio_text.specs.declared.errors.Errno.{Errno}
 use Rattle.iio_text.specs.declared.errors.Errno.TheVariants.{EBUSY, ENODEV, ENOSPC}
 use Rattle.iio_layout.specs.Shape.{ShapeRecord}
 use Rattle.iio_desc.specs.declared.description.TriggerDesc.{TriggerDesc}
-use Rattle.iio_desc.specs.Kind.{Kind, Input, Average, is_input, is_over}
+use Rattle.iio_desc.specs.Kind.{Input, Average}
 use Rattle.iio_derive.specs.Window.{full_mask}
 use Rattle.iio_trigger.specs.Trigger.{State}
 use Rattle.iio_device.specs.Active.{is_without_union}
 use Rattle.iio_device.specs.Site.{at_place, attached, is_empty}
 use Rattle.iio_core.specs.Attached.{has_no_place, is_attached}
-use Rattle.iio_core.specs.Calls.{all_joined, machine_after_close, has_no_number, inner_gone, inner_joined, is_inner_of, station_after_join, station_after_leave, newcomer, open_of, open_refusals, unless_made, with_inner, without_inner, host_of}
+use Rattle.iio_core.specs.Calls.{all_joined, machine_after_close, has_no_number, inner_gone, inner_joined, is_inner_of, station_after_join, station_after_leave, open_of, open_refusals, unless_made, with_inner, without_inner}
 use Rattle.iio_core.specs.Front.{Front, kind_at, shape_at}
-use Rattle.iio_core.specs.Machine.{Machine, Member, Station, masks_of, no_station, station_at, is_seat_of, station_in, with_station, attachment_of, attachments_of}
-use Rattle.iio_core.specs.Opening.{join_refusals, Host, inner_host, own_host}
+use Rattle.iio_core.specs.Machine.{Machine, Member, Station, masks_of, station_at, station_in, with_station, attachment_of, attachments_of}
+use Rattle.iio_core.specs.Opening.{join_refusals, Host, inner_host}
 use Rattle.iio_core.specs.Lists.{map_from}
 use Rattle.iio_core.proofs.PlaceLists.{itself, placed_from, same_number, twice_from}
 use Rattle.iio_bench.specs.Averages.{HasInner}
@@ -28,30 +29,20 @@ use Rattle.iio_bench.proofs.ListLemmas.{after_set, length_after, same_element}
 use Rattle.iio_bench.proofs.PlaceLemmas.{places_none}
 use Rattle.iio_bench.proofs.AverageLemmas.{from_each}
 use Rattle.iio_bench.proofs.RefusalLemmas.{lacks_is}
-use Rattle.iio_bench.proofs.OpenLemmas.{attached_plugged, some_more}
 
 -- ---- the machine
 
 module _ (front : Front) (j base window : ℕ) (is : kind_at front j ≡ Average base window) (input : kind_at front base ≡ Input) (apart : j ≡ base → ⊥) where
   other : (k i : ℕ) → (k ≡ i → ⊥) → (k == i) ≡ false
-  other k i away = by (k == i) refl
-    where
-      by : (b : Bool) → (k == i) ≡ b → b ≡ false
-      by true e = absurd (away (same_number k i e))
-      by false e = refl
+  other k i away = search rules
 
   -- ---- a joining
 
   joins_base : (b : Station) → with_inner front j base b ≡ inner_joined j (shape_at front base) b
-  joins_base b =
-      ap (λ (kind : Kind). cond (is_over kind base && is_input (kind_at front base)) (inner_joined j (shape_at front base) b) b) is
-      ∙ ap (λ (kind : Kind). cond ((base == base) && is_input kind) (inner_joined j (shape_at front base) b) b) input
-      ∙ ap (λ (t : Bool). cond (t && true) (inner_joined j (shape_at front base) b) b) (itself base)
+  joins_base b = search rules
 
   joins_other : (k : ℕ) (x : Station) → (k ≡ base → ⊥) → with_inner front j k x ≡ x
-  joins_other k x away =
-      ap (λ (kind : Kind). cond (is_over kind k && is_input (kind_at front k)) (inner_joined j (shape_at front k) x) x) is
-      ∙ ap (λ (t : Bool). cond (t && is_input (kind_at front k)) (inner_joined j (shape_at front k) x) x) (other base k (λ e. away (sym e)))
+  joins_other k x away = search rules
 
   module _ (m : Machine) (st b st' b' : Station) (at : slice_get m.stations j ≡ Some st) (under : slice_get m.stations base ≡ Some b) where
     abbrev both : List Station
@@ -70,20 +61,7 @@ module _ (front : Front) (j base window : ℕ) (is : kind_at front j ≡ Average
       where
         by : (k : ℕ) (x y : Station) → slice_get m.stations k ≡ Some x → ((k ≡ base) × (y ≡ b'))
             ⊎ ((k ≡ base → ⊥) × (slice_get (set m.stations j st') k ≡ Some y)) → y ≡ cond (j == k) (change x) (with_inner front j k x)
-        by k x y there (inl p) =
-            let one : b ≡ x = same_element m.stations base b x under (ap (λ (i : ℕ). slice_get m.stations i) (sym p.0) ∙ there) in
-            p.1 ∙ inner ∙ sym (joins_base b) ∙ ap (λ (z : Station). with_inner front j base z) one ∙ ap (λ (i : ℕ). with_inner front j i x) (sym p.0)
-            ∙ sym (ap (λ (t : Bool). cond t (change x) (with_inner front j k x)) (other j k (λ e. apart (e ∙ p.0))))
-        by k x y there (inr p) = further k x y there p.0 (after_set m.stations j k st' y p.1)
-          where
-            further : (k : ℕ) (x y : Station) → slice_get m.stations k ≡ Some x → (k ≡ base → ⊥) → ((k ≡ j) × (y ≡ st'))
-                ⊎ ((k ≡ j → ⊥) × (slice_get m.stations k ≡ Some y)) → y ≡ cond (j == k) (change x) (with_inner front j k x)
-            further k x y there away (inl q) =
-                let one : st ≡ x = same_element m.stations j st x at (ap (λ (i : ℕ). slice_get m.stations i) (sym q.0) ∙ there) in
-                q.1 ∙ own ∙ ap change one ∙ sym (ap (λ (t : Bool). cond t (change x) (with_inner front j k x)) (ap (λ (i : ℕ). j == i) q.0 ∙ itself j))
-            further k x y there away (inr q) =
-                same_element m.stations k y x q.1 there ∙ sym (joins_other k x away)
-                ∙ sym (ap (λ (t : Bool). cond t (change x) (with_inner front j k x)) (other j k (λ e. q.0 (sym e))))
+        by k x y there h1 = search (rules, same_element, joins_base, other, after_set, itself, joins_other)
 
     -- ---- a leaving
 
@@ -92,17 +70,10 @@ module _ (front : Front) (j base window : ℕ) (is : kind_at front j ≡ Average
 
     gone_base : (n : ℕ) (x : Station) → station_at (left_there n) j ≡ station_after_leave n st
         → without_inner front (left_there n) j base x ≡ cond (is_empty (station_after_leave n st).members) (inner_gone j x) x
-    gone_base n x own =
-        ap (λ (kind : Kind). cond (is_over kind base && is_input (kind_at front base) && is_empty (station_at (left_there n) j).members) (inner_gone j x) x) is
-        ∙ ap (λ (kind : Kind). cond ((base == base) && is_input kind && is_empty (station_at (left_there n) j).members) (inner_gone j x) x) input
-        ∙ ap (λ (t : Bool). cond (t && true && is_empty (station_at (left_there n) j).members) (inner_gone j x) x) (itself base)
-        ∙ ap (λ (s : Station). cond (is_empty s.members) (inner_gone j x) x) own
+    gone_base n x own = search rules
 
     gone_other : (n k : ℕ) (x : Station) → (k ≡ base → ⊥) → without_inner front (left_there n) j k x ≡ x
-    gone_other n k x away =
-        ap (λ (kind : Kind). cond (is_over kind k && is_input (kind_at front k) && is_empty (station_at (left_there n) j).members) (inner_gone j x) x) is
-        ∙ ap (λ (t : Bool). cond (t && is_input (kind_at front k) && is_empty (station_at (left_there n) j).members) (inner_gone j x) x)
-        (other base k (λ e. away (sym e)))
+    gone_other n k x away = search rules
 
     placed_there : (f : Station → Station) (xs : List Station) (i : ℕ) (x : Station) → slice_get xs i ≡ Some x → station_in (at_place i f xs) i ≡ f x
     placed_there f [] i x e = absurd (cc)
@@ -130,24 +101,7 @@ module _ (front : Front) (j base window : ℕ) (is : kind_at front j ≡ Average
 
         by : (k : ℕ) (x y : Station) → slice_get m.stations k ≡ Some x → ((k ≡ base) × (y ≡ b'))
             ⊎ ((k ≡ base → ⊥) × (slice_get (set m.stations j st') k ≡ Some y)) → y ≡ step k x
-        by k x y there (inl p) =
-            let one : b ≡ x = same_element m.stations base b x under (ap (λ (i : ℕ). slice_get m.stations i) (sym p.0) ∙ there) in
-            p.1 ∙ inner ∙ sym (gone_base n b (left_is n)) ∙ ap (λ (z : Station). without_inner front (left_there n) j base z) one
-            ∙ ap (λ (i : ℕ). without_inner front (left_there n) j i x) (sym p.0)
-            ∙ sym (ap (λ (t : Bool). without_inner front (left_there n) j k (cond t (station_after_leave n x) x)) (other j k (λ e. apart (e ∙ p.0))))
-        by k x y there (inr p) = further k x y there p.0 (after_set m.stations j k st' y p.1)
-          where
-            further : (k : ℕ) (x y : Station) → slice_get m.stations k ≡ Some x → (k ≡ base → ⊥) → ((k ≡ j) × (y ≡ st'))
-                ⊎ ((k ≡ j → ⊥) × (slice_get m.stations k ≡ Some y)) → y ≡ step k x
-            further k x y there away (inl q) =
-                let one : st ≡ x = same_element m.stations j st x at (ap (λ (i : ℕ). slice_get m.stations i) (sym q.0) ∙ there) in
-                q.1 ∙ own ∙ ap (station_after_leave n) one
-                ∙ sym (ap (λ (t : Bool). without_inner front (left_there n) j k (cond t (station_after_leave n x) x)) (ap (λ (i : ℕ). j == i) q.0 ∙ itself j)
-                ∙ gone_other n k (station_after_leave n x) away)
-            further k x y there away (inr q) =
-                same_element m.stations k y x q.1 there
-                ∙ sym (ap (λ (t : Bool). without_inner front (left_there n) j k (cond t (station_after_leave n x) x)) (other j k (λ e. q.0 (sym e)))
-                ∙ gone_other n k x away)
+        by k x y there h1 = search (rules, same_element, gone_base, left_is, other, after_set, itself, gone_other)
 
   -- ---- refusals
 
@@ -160,21 +114,7 @@ module _ (front : Front) (j base window : ℕ) (is : kind_at front j ≡ Average
       → first_refusal (open_refusals front m.stations (Average base window) (mean_host st b) st) ≡ r
       → open_of front m j mask capacity cyclic ≡ unless_made (all_joined front j (station_after_join mask capacity cyclic None)) m (unless_refused st.next r)
   unfolding open_of station_at
-  open_mean m mask capacity cyclic st b r at under e =
-      ap (λ (kind : Kind). unless_made (all_joined front j (station_after_join mask capacity cyclic None)) m
-      (unless_refused (unwrap_or (slice_get m.stations j) no_station).next
-      (first_refusal (open_refusals front m.stations kind
-      (host_of front m.stations kind (unwrap_or (slice_get m.stations j) no_station) (shape_at front j) mask)
-      (unwrap_or (slice_get m.stations j) no_station))))) is
-      ∙ ap (λ (o : Option Station). unless_made (all_joined front j (station_after_join mask capacity cyclic None)) m
-      (unless_refused (unwrap_or o no_station).next
-      (first_refusal (open_refusals front m.stations (Average base window)
-      (host_of front m.stations (Average base window) (unwrap_or o no_station) (shape_at front j) mask) (unwrap_or o no_station))))) at
-      ∙ ap (λ (o : Option Station). unless_made (all_joined front j (station_after_join mask capacity cyclic None)) m
-      (unless_refused st.next (first_refusal (open_refusals front m.stations (Average base window)
-      (unwrap_or (option_map (mean_host st) o) (own_host st (shape_at front j) mask (masks_of st.members))) st))))
-      under
-      ∙ ap (λ (x : Option Errno). unless_made (all_joined front j (station_after_join mask capacity cyclic None)) m (unless_refused st.next x)) e
+  open_mean m mask capacity cyclic st b r at under e = search rules
 
 -- the refusals of a first member, by those of the inner one at the base; besides, its own numbers may have run out
 abbrev pub base_list : (gone t u e p nb : Bool) → List (Bool × Errno)
@@ -185,42 +125,15 @@ mean_list gone t u e p ns nb = (gone, ENODEV) ∷ (false, EBUSY) ∷ join_refusa
 
 pub mean_refused : (gone t u e p ns nb : Bool) (err : Errno) → first_refusal (base_list gone t u e p nb) ≡ Some err
     → first_refusal (mean_list gone t u e p ns nb) ≡ Some err
-mean_refused true t u e p ns nb err is = is
-mean_refused false true u e p ns nb err is = is
-mean_refused false false true e p ns nb err is = is
-mean_refused false false false true true ns nb err is = is
-mean_refused false false false true false true true err is = is
-mean_refused false false false true false false true err is = is
-mean_refused false false false true false ns false err is = absurd (cc)
-mean_refused false false false false p true true err is = is
-mean_refused false false false false p false true err is = is
-mean_refused false false false false p ns false err is = absurd (cc)
+mean_refused gone t u e p ns nb err is = search rules
 
 pub mean_may : (gone t u e p nb : Bool) → first_refusal (base_list gone t u e p nb) ≡ None → first_refusal (mean_list gone t u e p false nb) ≡ None
-mean_may true t u e p nb is = absurd (cc)
-mean_may false true u e p nb is = absurd (cc)
-mean_may false false true e p nb is = absurd (cc)
-mean_may false false false true true nb is = absurd (cc)
-mean_may false false false true false true is = absurd (cc)
-mean_may false false false true false false is = refl
-mean_may false false false false p true is = absurd (cc)
-mean_may false false false false p false is = refl
+mean_may gone t u e p nb is = search rules
 
 pub mean_full : (gone t u e p nb : Bool) → first_refusal (base_list gone t u e p nb) ≡ None → first_refusal (mean_list gone t u e p true nb) ≡ Some ENOSPC
-mean_full true t u e p nb is = absurd (cc)
-mean_full false true u e p nb is = absurd (cc)
-mean_full false false true e p nb is = absurd (cc)
-mean_full false false false true true nb is = absurd (cc)
-mean_full false false false true false true is = absurd (cc)
-mean_full false false false true false false is = refl
-mean_full false false false false p true is = absurd (cc)
-mean_full false false false false p false is = refl
+mean_full gone t u e p nb is = search rules
 
 -- ---- which refusals there are
-
-further_full : (e p ns nb : Bool) → (false && e && p || ns || false && nb) ≡ ns
-further_full e p true nb = refl
-further_full e p false nb = refl
 
 module _ (front : Front) (base window : ℕ) (sts : List Station) (st b : Station) where
   -- of a further member: by the device's own plug and numbers, if the base has a trigger
@@ -228,15 +141,7 @@ module _ (front : Front) (base window : ℕ) (sts : List Station) (st b : Statio
       → open_refusals front sts (Average base window)
       (inner_host (is_empty st.members) b (shape_at front base)) st
       ≡ (not st.site.plugged, ENODEV) ∷ (false, EBUSY) ∷ join_refusals false false (has_no_number st)
-  further_is some on =
-      ap (λ (j : Bool). (not st.site.plugged, ENODEV) ∷ (false, EBUSY)
-      ∷ join_refusals (is_none b.site.trigger) (j && is_without_union (shape_at front base) [] (full_mask (shape_at front base)))
-      (j && is_empty b.members && has_no_place front (attachments_of sts) b.site.trigger || has_no_number st || j && has_no_number b)) some
-      ∙ ap (λ (t : Bool). (not st.site.plugged, ENODEV) ∷ (false, EBUSY)
-      ∷ join_refusals t false (false && is_empty b.members && has_no_place front (attachments_of sts) b.site.trigger || has_no_number st
-      || false && has_no_number b)) on
-      ∙ ap (λ (f : Bool). (not st.site.plugged, ENODEV) ∷ (false, EBUSY) ∷ join_refusals false false f)
-      (further_full (is_empty b.members) (has_no_place front (attachments_of sts) b.site.trigger) (has_no_number st) (has_no_number b))
+  further_is some on = search rules
 
   -- of the first member
   pub first_is : is_empty st.members ≡ true
@@ -244,14 +149,10 @@ module _ (front : Front) (base window : ℕ) (sts : List Station) (st b : Statio
       (inner_host (is_empty st.members) b (shape_at front base)) st
       ≡ mean_list (not st.site.plugged) (is_none b.site.trigger) (is_without_union (shape_at front base) [] (full_mask (shape_at front base)))
       (is_empty b.members) (has_no_place front (attachments_of sts) b.site.trigger) (has_no_number st) (has_no_number b)
-  first_is none =
-      ap (λ (j : Bool). (not st.site.plugged, ENODEV) ∷ (false, EBUSY)
-      ∷ join_refusals (is_none b.site.trigger) (j && is_without_union (shape_at front base) [] (full_mask (shape_at front base)))
-      (j && is_empty b.members && has_no_place front (attachments_of sts) b.site.trigger || has_no_number st || j && has_no_number b)) none
+  first_is none = cc
 
 place_as : (e p q : Bool) → (e ≡ true → q ≡ p) → (e && p) ≡ (e && q)
-place_as true p q same = sym (same refl)
-place_as false p q same = refl
+place_as e p q same = search rules
 
 -- and of the inner one at the base, with its trigger's places as the machine has them
 pub base_is : (front : Front) (states : List State) (sts : List Station) (k : ℕ) (shape : ShapeRecord) (b : Station) (plugged : Bool)
@@ -260,14 +161,7 @@ pub base_is : (front : Front) (states : List State) (sts : List Station) (k : �
     → any_refusals (lacks_place k states b.site.trigger) Input shape b (full_mask shape)
     ≡ base_list (not plugged) (is_none b.site.trigger) (is_without_union shape [] (full_mask shape)) (is_empty b.members)
     (has_no_place front (attachments_of sts) b.site.trigger) (has_no_number b)
-base_is front states sts k shape b plugged bench at same full =
-    ap (λ (t : Bool). base_list (not t) (is_none b.site.trigger) (is_without_union shape (masks_of b.members) (full_mask shape)) (is_empty b.members)
-    (lacks_place k states b.site.trigger) (has_no_number b)) same
-    ∙ ap (λ (u : Bool). base_list (not plugged) (is_none b.site.trigger) u (is_empty b.members) (lacks_place k states b.site.trigger) (has_no_number b)) full
-    ∙ ap (λ (e : Bool). (not plugged, ENODEV) ∷ (false, EBUSY)
-    ∷ join_refusals (is_none b.site.trigger) (is_without_union shape [] (full_mask shape)) (e || has_no_number b))
-    (place_as (is_empty b.members) (lacks_place k states b.site.trigger) (has_no_place front (attachments_of sts) b.site.trigger)
-    (λ empty. lacks_is front states sts k b bench at empty b.site.trigger))
+base_is front states sts k shape b plugged bench at same full = search (rules, is_none, place_as, lacks_is)
 
 -- ---- what holds afterwards
 
@@ -288,71 +182,27 @@ bench_unattached triggers states sts k st st' bench at off off' = record {
     none : (t : ℕ) (x : Station) → x.site.trigger ≡ None → is_attached t (attachment_of x) ≡ false
     none t x e = ap (λ (o : Option ℕ). option_map_or (λ (i : ℕ). i == t) o false && not (is_empty x.members)) e
 
-inner_own : (j : ℕ) (ms : List Member) (m : Member) → is_inner_of j m ≡ true → list_any (is_inner_of j) (ms ++ m ∷ []) ≡ true
-inner_own j [] m own = ap (λ (b : Bool). b || false) own
-inner_own j (x ∷ ms) m own = ap (λ (b : Bool). is_inner_of j x || b) (inner_own j ms m own) ∙ by (is_inner_of j x)
-  where
-    by : (b : Bool) → (b || true) ≡ true
-    by true = refl
-    by false = refl
-
 -- the first member and its inner one
 pub has_first : (j mask capacity : ℕ) (shape : ShapeRecord) (st b st' b' : Station) → HasInner j b st → st' ≡ station_after_join mask capacity false None st
     → b' ≡ station_after_join (full_mask shape) 1 false (Some j) b → HasInner j b' st'
-has_first j mask capacity shape st b st' b' own is inner = record {
-  plugged =
-      ap (λ (x : Station). x.site.plugged) is ∙ attached_plugged (is_empty st.members) st.site ∙ own.plugged
-      ∙ sym (ap (λ (x : Station). x.site.plugged) inner ∙ attached_plugged (is_empty b.members) b.site);
-  inner =
-      ap (λ (x : Station). has_inner j x) inner ∙ inner_own j b.members (newcomer (full_mask shape) 1 false (Some j) b) (itself j)
-      ∙ sym (ap (λ (x : Station). not (is_empty x.members)) is ∙ ap not (some_more st.members (newcomer mask capacity false None st)));
-  fewer = (let f = own.fewer in let s = ap (λ (x : Station). x.captures) is in let c = ap (λ (x : Station). x.captures) inner in omega (arith, f, s, c));
-  most = (let f = own.most in let c = ap (λ (x : Station). x.captures) inner in omega (arith, f, c));
-}
+has_first j mask capacity shape st b st' b' own is inner = grind (arith, common_steps)
 
 -- a further member
 pub has_further : (j mask capacity : ℕ) (st b st' : Station) → HasInner j b st → is_empty st.members ≡ false
     → st' ≡ station_after_join mask capacity false None st
     → HasInner j b st'
-has_further j mask capacity st b st' own some is = record {
-  plugged = ap (λ (x : Station). x.site.plugged) is ∙ attached_plugged (is_empty st.members) st.site ∙ own.plugged;
-  inner =
-      own.inner ∙ ap not some ∙ sym (ap (λ (x : Station). not (is_empty x.members)) is ∙ ap not (some_more st.members (newcomer mask capacity false None st)));
-  fewer = (let f = own.fewer in let s = ap (λ (x : Station). x.captures) is in omega (arith, f, s));
-  most = own.most;
-}
+has_further j mask capacity st b st' own some is = search rules
 
 -- no inner member of averaging device j is left at its base
 none_inner : (j : ℕ) (ms : List Member) → list_any (is_inner_of j) (filter (λ (x : Member). not (is_inner_of j x)) ms) ≡ false
 none_inner j [] = refl
-none_inner j (x ∷ ms) = by (is_inner_of j x) refl (none_inner j ms)
-  where
-    by : (b : Bool) → is_inner_of j x ≡ b → list_any (is_inner_of j) (filter (λ (y : Member). not (is_inner_of j y)) ms) ≡ false
-        → list_any (is_inner_of j) (cond (not b) (x ∷ filter (λ (y : Member). not (is_inner_of j y)) ms) (filter (λ (y : Member). not (is_inner_of j y)) ms))
-        ≡ false
-    by true e rest = rest
-    by false e rest = ap (λ (b : Bool). b || list_any (is_inner_of j) (filter (λ (y : Member). not (is_inner_of j y)) ms)) e ∙ rest
+none_inner j (x ∷ ms) = search (rules, none_inner j ms)
 
 -- the inner members of others stay
 pub inner_stays : (j i : ℕ) (ms : List Member) → (i ≡ j → ⊥)
     → list_any (is_inner_of i) (filter (λ (x : Member). not (is_inner_of j x)) ms) ≡ list_any (is_inner_of i) ms
 inner_stays j i [] apart = refl
-inner_stays j i (x ∷ ms) apart = by x.inner (inner_stays j i ms apart)
-  where
-    rest_of : List Member
-    rest_of = filter (λ (y : Member). not (is_inner_of j y)) ms
-
-    some : (n : ℕ) (b c : Bool) → (n == j) ≡ b → (n == i) ≡ c → list_any (is_inner_of i) rest_of ≡ list_any (is_inner_of i) ms
-        → list_any (is_inner_of i) (cond (not b) (record x { inner = Some n } ∷ rest_of) rest_of) ≡ (c || list_any (is_inner_of i) ms)
-    some n true true p q rest = absurd (apart (sym (same_number n i q) ∙ same_number n j p))
-    some n true false p q rest = rest
-    some n false c p q rest = ap (λ (b : Bool). b || list_any (is_inner_of i) rest_of) q ∙ ap (λ (b : Bool). c || b) rest
-
-    by : (o : Option ℕ) → list_any (is_inner_of i) rest_of ≡ list_any (is_inner_of i) ms
-        → list_any (is_inner_of i) (cond (not (option_map_or (λ (n : ℕ). n == j) o false)) (record x { inner = o } ∷ rest_of) rest_of)
-        ≡ (option_map_or (λ (n : ℕ). n == i) o false || list_any (is_inner_of i) ms)
-    by None rest = rest
-    by (Some n) rest = some n (n == j) (n == i) refl refl rest
+inner_stays j i (x ∷ ms) apart = search (rules, same_number, inner_stays j i ms apart)
 
 -- when the last member leaves, so does the inner one
 pub has_left : (j n : ℕ) (st b st' b' : Station) → HasInner j b st → st' ≡ station_after_leave n st
@@ -361,11 +211,7 @@ pub has_left : (j n : ℕ) (st b st' b' : Station) → HasInner j b st → st' �
 has_left j n st b st' b' own is inner = by (is_empty (station_after_leave n st).members) refl inner
   where
     some : is_empty (station_after_leave n st).members ≡ false → is_empty st.members ≡ false
-    some e = two st.members e
-      where
-        two : (ms : List Member) → is_empty (filter (λ (x : Member). not (is_seat_of n x)) ms) ≡ false → is_empty ms ≡ false
-        two [] e = absurd (cc)
-        two (m ∷ ms) e = refl
+    some e = search rules
 
     by : (t : Bool) → is_empty (station_after_leave n st).members ≡ t → b' ≡ cond t (inner_gone j b) b → HasInner j b' st'
     by true e inner = record {
@@ -374,9 +220,4 @@ has_left j n st b st' b' own is inner = by (is_empty (station_after_leave n st).
       fewer = (let f = own.fewer in let s = ap (λ (x : Station). x.captures) is in let c = ap (λ (x : Station). x.captures) inner in omega (arith, f, s, c));
       most = (let f = own.most in let c = ap (λ (x : Station). x.captures) inner in omega (arith, f, c));
     }
-    by false e inner = record {
-      plugged = ap (λ (x : Station). x.site.plugged) is ∙ own.plugged ∙ sym (ap (λ (x : Station). x.site.plugged) inner);
-      inner = ap (λ (x : Station). has_inner j x) inner ∙ own.inner ∙ ap not (some e) ∙ sym (ap (λ (x : Station). not (is_empty x.members)) is ∙ ap not e);
-      fewer = (let f = own.fewer in let s = ap (λ (x : Station). x.captures) is in let c = ap (λ (x : Station). x.captures) inner in omega (arith, f, s, c));
-      most = (let f = own.most in let c = ap (λ (x : Station). x.captures) inner in omega (arith, f, c));
-    }
+    by false e inner = search rules

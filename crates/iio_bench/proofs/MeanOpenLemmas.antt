@@ -1,6 +1,7 @@
 -- OPEN at an averaging device of a bench.
-use Rattle.std.proofs.Common.{◌≡◌, ℕ, zero, suc, ◌<◌, ◌^◌, Bool, true, false, List, [], ◌∷◌, map, length, set, get_or, slice_get, Option, Some, None, Result, Ok, Err, refl, sym, ap, subst, ◌∙◌, arith, cond}
-use Rattle.std.specs.Prelude.{◌==◌, ◌&&◌, ◌||◌, ◌-◌, ◌≤◌, ◌*◌, IfOk, is_none, not}
+use Rattle.std.proofs.Common.{◌≡◌, ℕ, zero, suc, ◌<◌, ◌^◌, Bool, true, false, List, [], ◌∷◌, map, length, set, get_or, slice_get, Option, Some, None, Result, Ok, Err, refl, sym, ap, subst, ◌∙◌, arith, cond, rules}
+use Rattle.std.proofs.lemmas.Grind.{common_steps}
+use Rattle.std.specs.Prelude.{◌==◌, ◌&&◌, ◌-◌, ◌≤◌, ◌*◌, IfOk, is_none, not}
 use Rattle.std.specs.List.{list_any}
 use Rattle.std.proofs.lemmas.List.{map-set}
 use Rattle.std.proofs.lemmas.Option.{slice_get_read}
@@ -12,7 +13,7 @@ use Rattle.iio_layout.specs.Layout.{scan_size}
 use Rattle.iio_layout.specs.Shape.{ShapeRecord, count_of}
 use Rattle.iio_desc.specs.Description.{DeviceHead}
 use Rattle.iio_desc.specs.declared.description.TriggerDesc.{TriggerDesc}
-use Rattle.iio_desc.specs.Kind.{Kind, Input, Output, Average, is_average, is_input, is_output}
+use Rattle.iio_desc.specs.Kind.{Kind, Input, Output, Average, is_average, is_output}
 use Rattle.iio_derive.specs.Window.{full_mask}
 use Rattle.iio_sensor.specs.Driver.{Driver}
 use Rattle.iio_trigger.specs.Trigger.{State}
@@ -27,7 +28,6 @@ use Rattle.iio_core.specs.Front.{Front, kind_at, shape_at}
 use Rattle.iio_core.specs.Machine.{Machine, Member, Station, masks_of, station_at, station_in, attachments_of}
 use Rattle.iio_core.specs.Opening.{join_refusals, inner_host}
 use Rattle.iiod_commands.specs.Seat.{Answers, IsNew, number_by as number_of}
-use Rattle.iio_core.proofs.PlaceLists.{same_number}
 use Rattle.iio_kinds.specs.declared.any_device.AnyDevice.{AnyDevice}
 use Rattle.iio_kinds.specs.declared.any_device.AnyDevice.TheVariants as any
 use Rattle.iio_bench.specs.declared.bench.Bench.{Bench}
@@ -40,7 +40,7 @@ use Rattle.iio_bench.specs.Triggers.{IsBench, IsNumbered}
 use Rattle.iio_kinds.specs.Places.{hosts, is_hosted, place_left, place_taken}
 use Rattle.iio_bench.specs.Seat.{seen_of}
 use Rattle.iio_kinds.specs.Station.{KeepsHead, any_front, any_station, base_of, number_by, stations_by}
-use Rattle.iio_bench.proofs.ListLemmas.{element_at, length_after, length_map_is, map_at, map_same, numbered_after, same_element, set_same, within_map}
+use Rattle.iio_bench.proofs.ListLemmas.{element_at, map_at, map_same, numbered_after, same_element, set_same, within_map}
 use Rattle.iio_bench.proofs.BenchLemmas.{bench_by, hosted_is}
 use Rattle.iio_bench.proofs.AverageLemmas.{average_other, averaged_pair, get_here, get_there, got_there, here_is, input_plain, set_twice}
 use Rattle.iio_bench.proofs.MeanLemmas.{base_is, base_list, bench_unattached, first_is, further_is, has_first, has_further, has_left, inner_stays, mean_closed, mean_full, mean_joined, mean_list, mean_may, mean_refused, open_mean}
@@ -58,15 +58,10 @@ further_goes : first_refusal ((false, ENODEV) ∷ (false, EBUSY) ∷ join_refusa
 further_goes = refl
 
 inner_some : (j : ℕ) (ms : List Member) → list_any (is_inner_of j) ms ≡ true → is_empty ms ≡ false
-inner_some j [] e = absurd (cc)
-inner_some j (m ∷ ms) e = refl
+inner_some j ms e = search rules
 
 on_trigger : (n : ℕ) (st : Station) → is_empty st.members ≡ false → is_hosted n st ≡ true → is_none st.site.trigger ≡ false
-on_trigger n st some h = by st.site.trigger h
-  where
-    by : (o : Option ℕ) → hosts n (is_empty st.members) o ≡ true → is_none o ≡ false
-    by None e = absurd (let never = sym some ∙ e in cc)
-    by (Some t) e = refl
+on_trigger n st some h = search rules
 
 -- if memory ran out, nothing changes
 pub told_mem : {A : Type 0} (o : CallResult A) (m m' : Machine) (refusal : No) → refusal ≡ NoMem → m' ≡ m → Answers o m (Err refusal) (Some m')
@@ -75,8 +70,7 @@ told_mem {A = A} o m m' refusal e same = subst (λ (y : No). Answers {A = A} o m
 -- what an undoing requires
 pub has_joined : (mask : Mask) (capacity : ℕ) (shape : ShapeRecord) (seat : Seat) (st st' : Station) → JoinsMean mask capacity shape (Ok seat) st st'
     → HasJoined seat.mask seat.capacity st'
-has_joined mask capacity shape seat st st' j =
-    subst (λ (s : Seat). HasJoined s.mask s.capacity st') (sym j.0) (st, j.1, j.2)
+has_joined mask capacity shape seat st st' j = search rules
 
 pub joined_by_seat : (mask : Mask) (capacity : ℕ) (shape : ShapeRecord) (seat : Seat) (st st' : Station) → JoinsMean mask capacity shape (Ok seat) st st'
     → st' ≡ station_after_join seat.mask.bits seat.capacity false None st
@@ -84,29 +78,22 @@ joined_by_seat mask capacity shape seat st st' j = j.1 ∙ sym (ap (λ (s : Seat
 
 -- the scans of an averaging device's members never come round again
 pub never_cyclic : (kind : Kind) (cyclic : Bool) → is_average kind ≡ true → (cyclic && not (is_output kind)) ≡ false → cyclic ≡ false
-never_cyclic Input cyclic is once = absurd (cc)
-never_cyclic Output cyclic is once = absurd (cc)
-never_cyclic (Average base window) true is once = absurd (cc)
-never_cyclic (Average base window) false is once = refl
+never_cyclic kind cyclic is once = search rules
 
 pub once_bytes : (n m : ℕ) → n ≤ m → 1 * n ≤ m
 once_bytes n m h = omega (arith, h)
 
 -- whether a member is left
 pub empty_then : (b : Bool) → not b ≡ false → b ≡ true
-empty_then true e = refl
-empty_then false e = absurd (cc)
+empty_then b e = search rules
 
 pub no_longer_empty : (b : Bool) → not b ≡ true → b ≡ false
-no_longer_empty true e = absurd (cc)
-no_longer_empty false e = refl
+no_longer_empty b e = search rules
 
 -- an averaging device has no trigger
 mean_off : {X : Type 0} {V : X → Type 0} (drive : Plug X V → Driver) (base : ℕ) (d : AnyDevice X V) → base_of (any_front d).kind ≡ Some base
     → (any_station drive d).site.trigger ≡ None
-mean_off drive base (any.Input d) over = absurd (cc)
-mean_off drive base (any.Output x) over = absurd (cc)
-mean_off drive base (any.Average a) over = refl
+mean_off drive base d over = search rules
 
 -- ---- an averaging device and its base, as the code reads them
 
@@ -144,26 +131,18 @@ element_there (x ∷ xs) (suc i) h = element_there xs i (omega (arith, h))
 
 within_set : {X : Type 0} {V : X → Type 0} (ds : List (AnyDevice X V)) (k i : ℕ) (d' : AnyDevice X V) → i < length ds
     → i < length (map any_front (set ds k d'))
-within_set ds k i d' within =
-    let seen = length_map_is any_front (set ds k d') in
-    let same = length_after ds k d' in
-    omega (arith, within, seen, same)
+within_set ds k i d' within = grind (arith, common_steps)
 
 module _ {X : Type 0} {V : X → Type 0} {bench : Bench X V} {k base : ℕ} {d : AnyDevice X V} (m : MeanAt bench k base d) where
   abbrev there : List (AnyDevice X V)
   there = bench.devices.items
 
   pub base_inside : base < length there
-  base_inside =
-      base_within (length bench.described.items) bench.first_average (stations_by (λ p. no_driver) there) there k base d bench.averaged m.at m.over
+  base_inside = search (rules, base_within)
 
   -- an averaging device is not its base
   base_apart : base ≡ k → ⊥
-  base_apart e =
-      let mean = mean_of (any_front d).kind base m.over in
-      let is = kind_there there k d m.at ∙ mean.is in
-      average_other (map any_front there) k base base mean.window is
-      (input_plain (kind_in (map any_front there) base) (bench.averaged.bases.bases k base mean.window is).input) (sym e)
+  base_apart e = search (rules, mean_of, any_front, kind_there, average_other, input_plain)
 
   -- a second read of it is the same
   pub same_mean : {d' : AnyDevice X V} → MeanAt bench k base d' → d ≡ d'
@@ -299,9 +278,7 @@ module _ {X : Type 0} {V : X → Type 0} (drive : Plug X V → Driver) {bench : 
     inner_here = own_inner.inner ∙ ap not some
 
     on : is_none b.site.trigger ≡ false
-    on =
-        on_trigger (length triggers) b (inner_some k b.members inner_here)
-        (hosted_at drive (length triggers) bench.first_average ds bench.averaged base e p.under (ap is_average input_base))
+    on = search (rules, on_trigger, inner_some, inner_here, hosted_at, input_base)
 
     further_by : (mask capacity : ℕ) (r : Option Errno)
         → first_refusal ((not st.site.plugged, ENODEV) ∷ (false, EBUSY) ∷ join_refusals false false (has_no_number st)) ≡ r
@@ -396,8 +373,7 @@ module _ {X : Type 0} {V : X → Type 0} (drive : Plug X V → Driver) {bench : 
 
     pub hosts_triggers : (r : Result ℕ No) (xs : List State) → xs ≡ states
         → HostsAny xs (any_front e).kind (number_by e) (any_front e).shape b full r → HostsTold r
-    hosts_triggers r xs same h =
-        hosts_told r (subst (λ (ys : List State). HostsAny ys (any_front e).kind (number_by e) (any_front e).shape b full r) same h)
+    hosts_triggers r xs same h = search (rules, hosts_told, any_front, number_by)
 
     pub hosts_here : (r : Result ℕ No) → HostsTold r → HostsAny states (any_front e).kind (number_by e) (any_front e).shape b full r
     hosts_here r h =
@@ -407,28 +383,19 @@ module _ {X : Type 0} {V : X → Type 0} (drive : Plug X V → Driver) {bench : 
         (subst (λ (x : Station). HostsAny states Input base (shape_at front base) x full r) station_base h)))
 
     pub alone_told : IsServedAlone (any_front e).kind (any_front e).shape b full → IsServedAlone Input (shape_at front base) (station_at machine base) full
-    alone_told h =
-        subst (λ (x : Station). IsServedAlone Input (shape_at front base) x full) (sym station_base)
-        (subst (λ (shape : ShapeRecord). IsServedAlone Input shape b full) (sym shape_base)
-        (subst (λ (kind : Kind). IsServedAlone kind (any_front e).shape b full) input_base h))
+    alone_told h = search (rules, station_base, shape_base, any_front, input_base)
 
     pub alone_here : IsServedAlone Input (shape_at front base) (station_at machine base) full → IsServedAlone Input (shape_at front base) b full
     alone_here h = subst (λ (x : Station). IsServedAlone Input (shape_at front base) x full) station_base h
 
     -- a queue can hold a scan of all its channels
     pub full_fits : full ≡ full_mask (shape_at front base) → full < 2 ^ count_of (any_front e).shape
-    full_fits whole =
-        subst (λ (m : ℕ). m < 2 ^ count_of (any_front e).shape) (sym (whole ∙ ap full_mask shape_base)) (full_below (count_of (any_front e).shape))
+    full_fits whole = search (rules, any_front, shape_base, full_below)
 
     -- the inner member may be there
     pub may_have_inner : (capacity : ℕ) → is_empty st.members ≡ true → full ≡ full_mask (shape_at front base) → capacity ≡ 1
         → MayHaveInner (any_front e) full capacity b k
-    may_have_inner capacity none whole one = record {
-      input = ap is_input input_base;
-      whole = whole ∙ ap full_mask shape_base;
-      one = one;
-      none = own_inner.inner ∙ ap not none;
-    }
+    may_have_inner capacity none whole one = search (rules, input_base, shape_base, own_inner)
 
   -- ---- the refusals of the first member
 
@@ -507,16 +474,7 @@ module _ {X : Type 0} {V : X → Type 0} (drive : Plug X V → Driver) {bench : 
 
   pub mean_seat : (mask : Mask) (capacity : ℕ) (st' : Station) (r : Result Seat No) → JoinsMean mask capacity (any_front d).shape r st st'
       → IfOk r (λ x. IsNew front k mask.bits capacity (seen_of x))
-  mean_seat mask capacity st' (Ok seat) j = record {
-    owned = record {
-      under = ap (λ (x : Seat). x.mask.bits) j.0;
-      sized =
-          ap (λ (x : Seat). x.size) j.0 ∙ ap (λ (shape : ShapeRecord). scan_size shape mask.bits) (sym (shape_is any_front context triggers ds k d p.mean.at));
-      bounded = ap (λ (x : Seat). x.capacity) j.0;
-    };
-    fresh = refl;
-  }
-  mean_seat mask capacity st' (Err refusal) j = tt
+  mean_seat mask capacity st' r j = search (rules, shape_is, any_front)
 
   -- ---- what holds afterwards
 
@@ -536,9 +494,7 @@ module _ {X : Type 0} {V : X → Type 0} (drive : Plug X V → Driver) {bench : 
 
   -- if it is read again
   pub mean_once : (d' x : AnyDevice X V) → k < length (map any_front ds) → x ≡ get_or (set ds k d') k x → x ≡ d'
-  mean_once d' x known read =
-      same_element (set ds k d') k x d' (element_at any_front (set ds k d') k x (within_set ds k k d' (within_map any_front ds k known)) read)
-      (get_here ds k d d' p.mean.at)
+  mean_once d' x known read = grind (arith, common_steps)
 
   pub read_again : (d' e' x : AnyDevice X V) → k < length (map any_front ds) → x ≡ get_or (set (set ds k d') base e') k x
       → slice_get (set (set ds k d') base e') k ≡ Some x
@@ -614,8 +570,7 @@ module _ {X : Type 0} {V : X → Type 0} (drive : Plug X V → Driver) {bench : 
   -- a further member, or none
   pub holds_further : (mask : Mask) (capacity : ℕ) (d' : AnyDevice X V) (shape : ShapeRecord) (r : Result Seat No) → KeepsHead d d'
       → is_empty st.members ≡ false → JoinsMean mask capacity shape r st (any_station drive d') → Holds bench states (set ds k d')
-  holds_further mask capacity d' shape (Ok seat) keeps some j =
-      holds_alone d' keeps (has_further k mask.bits capacity st b (any_station drive d') own_inner some j.1)
+  holds_further mask capacity d' shape (Ok seat) keeps some j = search (rules, holds_alone, has_further, own_inner)
   holds_further mask capacity d' shape (Err refusal) keeps some j = holds_same d' keeps j.1
 
   -- ---- both change, the base by its trigger
@@ -665,11 +620,7 @@ module _ {X : Type 0} {V : X → Type 0} (drive : Plug X V → Driver) {bench : 
         ∙ inner_more i b.members (newcomer full.bits 1 false (Some k) b) (none_of i other))
       where
         none_of : (i : ℕ) → (i ≡ k → ⊥) → (k == i) ≡ false
-        none_of i other = by (k == i) refl
-          where
-            by : (c : Bool) → (k == i) ≡ c → c ≡ false
-            by true q = absurd (other (sym (same_number k i q)))
-            by false q = refl
+        none_of i other = search rules
 
     pub holds_first : (mask : Mask) (capacity : ℕ) (d' e' : AnyDevice X V) (s' : State) → KeepsHead d d' → KeepsHead e e'
         → full.bits ≡ full_mask (shape_at front base)
@@ -677,11 +628,7 @@ module _ {X : Type 0} {V : X → Type 0} (drive : Plug X V → Driver) {bench : 
         → any_station drive e' ≡ station_after_join full.bits 1 false (Some k) b
         → s' ≡ place_taken (number_by e) b s
         → Holds bench (set states t s') (set (set ds k d') base e')
-    holds_first mask capacity d' e' s' keeps keeps' whole is joins taken = record {
-      sound = sound_first d' e' s' keeps joins taken;
-      numbered = numbered_both d' e' keeps keeps';
-      averaged = averaged_first mask capacity d' e' keeps keeps' whole is joins;
-    }
+    holds_first mask capacity d' e' s' keeps keeps' whole is joins taken = search (rules, sound_first, numbered_both, averaged_first)
 
     -- if memory runs out for the inner member, the first one's joining is undone at x, the averaging device: all is as before
     module _ (mask : Mask) (capacity : ℕ) (seat : Seat) (d' e' x d'' : AnyDevice X V) (s' : State) (known : k < length (map any_front ds))
@@ -694,10 +641,7 @@ module _ {X : Type 0} {V : X → Type 0} (drive : Plug X V → Driver) {bench : 
       undone_devices = set (set (set ds k d') base e') k d''
 
       undone : any_station drive d'' ≡ st
-      undone =
-          undoes st
-          (ap (λ (y : AnyDevice X V). any_station drive y) (mean_again d' e' x known again)
-          ∙ joined_by_seat mask capacity (any_front d).shape seat st (any_station drive d') joins)
+      undone = search (rules, mean_again, joined_by_seat, any_front)
 
       stations_undone : stations_by drive undone_devices ≡ stations_by drive ds
       stations_undone =
@@ -748,13 +692,11 @@ module _ {X : Type 0} {V : X → Type 0} (drive : Plug X V → Driver) {bench : 
       ∙ ap (λ (y : Station). not (is_empty y.members)) is)
     where
       by : (a c : Bool) → c ≡ not a → a ≡ not c
-      by true c q = ap not (sym q)
-      by false c q = ap not (sym q)
+      by a c q = search rules
 
   -- the base's trigger is there
   pub base_on : (t : ℕ) → Some t ≡ b.site.trigger → t < length states
-  base_on t on =
-      subst (λ (n : ℕ). t < n) (sym (as_many triggers states bench.sound.places)) (hosted_within (length triggers) t b (sym on) base_hosted)
+  base_on t on = search (rules, on, as_many, hosted_within, base_hosted)
 
   -- the base keeps its inner member if there is still a member
   inner_needed : (n : ℕ) → is_empty (station_after_leave n st).members ≡ false → b ≡ cond (is_empty (station_after_leave n st).members) (inner_gone k b) b
@@ -762,11 +704,7 @@ module _ {X : Type 0} {V : X → Type 0} (drive : Plug X V → Driver) {bench : 
 
   -- the base has no inner member if it has no trigger
   inner_none : (n : ℕ) → b.site.trigger ≡ None → b ≡ cond (is_empty (station_after_leave n st).members) (inner_gone k b) b
-  inner_none n none = by (is_empty (station_after_leave n st).members)
-    where
-      by : (c : Bool) → b ≡ cond c (inner_gone k b) b
-      by true = sym (gone_none k b (hosted_none (length triggers) b none base_hosted))
-      by false = refl
+  inner_none n none = search (rules, none, gone_none, hosted_none, base_hosted)
 
   -- what is told afterwards
   told_both : (n : ℕ) (d' e' : AnyDevice X V) → any_station drive d' ≡ station_after_leave n st

@@ -1,20 +1,18 @@
 -- OPEN and CLOSE at a bench.
-use Rattle.std.proofs.Common.{◌≡◌, ℕ, zero, suc, ◌+◌, ◌*◌, ◌<◌, ◌≤◌, ◌^◌, Bool, true, false, List, [], ◌∷◌, ◌++◌, map, filter, length, set, slice_get, Option, Some, None, IfOk, Result, Ok, Err, refl, sym, ap, subst, ◌∙◌, arith, cond}
-use Rattle.std.specs.Prelude.{◌==◌, ◌&&◌, ◌||◌, ◌-◌, is_none, not, ℤ, nat_lt}
+use Rattle.std.proofs.Common.{◌≡◌, ℕ, zero, suc, ◌+◌, ◌*◌, ◌<◌, ◌≤◌, ◌^◌, Bool, true, false, List, [], ◌∷◌, ◌++◌, map, filter, length, set, slice_get, Option, Some, None, IfOk, Result, Ok, Err, refl, sym, ap, subst, ◌∙◌, arith, cond, rules}
+use Rattle.std.proofs.lemmas.Grind.{common_steps}
+use Rattle.std.specs.Prelude.{◌&&◌, ◌||◌, ◌-◌, is_none, not, ℤ}
 use Rattle.std.specs.List.{list_any}
 use Rattle.std.specs.Option.{option_map_or}
-use Rattle.std.proofs.lemmas.Bool.Decides.{nat_tests}
-use Rattle.std.proofs.lemmas.List.{length-append, length-map}
 use Rattle.std.proofs.lemmas.Nat.{pow_pos}
 use Rattle.std.proofs.lemmas.Nat.Bits.{bit_at_ones}
 use Rattle.iio_base.specs.Refusals.{first_refusal, unless_refused}
 use Rattle.iio_text.specs.declared.errors.Errno.{Errno}
 use Rattle.iio_mask.specs.declared.Mask.{Mask}
 use Rattle.iio_mask.specs.Mask.{has}
-use Rattle.iio_layout.specs.declared.channel.Channel.{Channel}
-use Rattle.iio_layout.specs.Active.{has_below, has_data}
+use Rattle.iio_layout.specs.Active.{has_data}
 use Rattle.iio_layout.specs.Layout.{scan_size}
-use Rattle.iio_layout.specs.Shape.{ShapeRecord, count_of, stamp_formats}
+use Rattle.iio_layout.specs.Shape.{ShapeRecord, count_of}
 use Rattle.iio_derive.specs.Window.{full_mask}
 use Rattle.iio_desc.specs.declared.description.TriggerDesc.{TriggerDesc}
 use Rattle.iio_kfifo.specs.declared.limits.TheConstants.{MAX_BYTES}
@@ -27,12 +25,11 @@ use Rattle.iio_device.specs.Site.{Site, attached, is_empty, no_driver}
 use Rattle.iiod_commands.specs.declared.iio.No.{No}
 use Rattle.iiod_commands.specs.declared.iio.No.TheVariants.{Errno as NoErrno, Mem as NoMem}
 use Rattle.iio_core.specs.Opening.{own_host}
-use Rattle.iio_core.specs.Attached.{is_attached}
 use Rattle.iio_core.specs.Trigger.{Trigger}
 use Rattle.iio_core.specs.Front.{Front, kind_at, shape_at}
 use Rattle.iio_desc.specs.Description.{DeviceHead}
 use Rattle.iio_desc.specs.Kind.{Kind, Input, Output, Average, is_average}
-use Rattle.iio_core.specs.Machine.{Machine, Member, Station, is_seat_of, no_station, station_at, station_in, with_station, attachment_of, masks_of}
+use Rattle.iio_core.specs.Machine.{Machine, Member, Station, is_seat_of, no_station, station_at, station_in, with_station, masks_of}
 use Rattle.iio_core.specs.Calls.{machine_after_close, inner_gone, is_inner_of, station_after_join, station_after_leave, newcomer, open_of, open_refusals, trigger_by, trigger_of as trigger_told_of, unless}
 use Rattle.iiod_commands.specs.Seat.{Answers, IsNew, MayOpen, number_by as number_of}
 use Rattle.iio_kinds.specs.declared.any_device.AnyDevice.{AnyDevice}
@@ -41,19 +38,17 @@ use Rattle.iio_kinds.specs.declared.seat.Seat.{Seat}
 use Rattle.iio_kinds.specs.Faults.{HostsAny, JoinsAny, any_refusals, joining_of, lacks_place}
 use Rattle.iio_bench.specs.Averages.{IsAveraged, kind_in}
 use Rattle.iio_kinds.specs.Inner.{has_inner}
-use Rattle.iio_kinds.specs.MeanStation.{mean_station}
-use Rattle.iio_kinds.specs.OutStation.{out_station}
 use Rattle.iio_bench.specs.Triggers.{IsBench, IsNumbered, places_from}
 use Rattle.iio_kinds.specs.Places.{hosts, is_hosted, place_left, trigger_of}
 use Rattle.iio_bench.specs.Seat.{seen_of}
-use Rattle.iio_kinds.specs.Station.{KeepsHead, any_front, any_station, base_of, in_station, number_by, stations_by}
+use Rattle.iio_kinds.specs.Station.{KeepsHead, any_front, any_station, base_of, number_by, stations_by}
 use Rattle.iio_bench.proofs.ListLemmas.{at_place_same, length_map_is, map_at, same_element}
 use Rattle.iio_kinds.proofs.EmptyLemmas.{empty_list}
 use Rattle.iio_kinds.proofs.StandingLemmas.{KeepsPlace, KeepsStanding}
-use Rattle.iio_bench.proofs.BenchLemmas.{KeepsRest, bench_attached, bench_by, bench_detached, bench_stays, hosted_is, none_attached, stands_same}
+use Rattle.iio_bench.proofs.BenchLemmas.{KeepsRest, bench_attached, bench_by, bench_detached, bench_stays, hosted_is, stands_same}
 use Rattle.iio_bench.proofs.AverageLemmas.{KeepsBase, averaged_by, averaged_each, averaged_plain, averaged_stands, here_is}
 use Rattle.iio_bench.proofs.RefusalLemmas.{refusals_any}
-use Rattle.iio_bench.proofs.AnyLemmas.{attached_as, attachment_as, closed_alone, hosted_as, inner_as, made_as, members_as, open_alone, plugged_as}
+use Rattle.iio_bench.proofs.AnyLemmas.{closed_alone, hosted_as, open_alone}
 use Rattle.iio_bench.proofs.ToldLemmas.{fronts_by, kind_is, machine_by, shape_is, station_is, told_changed, told_same}
 
 -- ---- the mask of all channels
@@ -64,48 +59,30 @@ full_below c = let some : 1 ≤ 2 ^ c = pow_pos c in omega (arith, some)
 
 -- the channels of a device include a data channel
 pub full_has : (shape : ShapeRecord) → 0 < length shape.channels → has_data shape (full_mask shape) ≡ true
-full_has shape some = by (length shape.channels) refl
-  where
-    by : (n : ℕ) → length shape.channels ≡ n → has_below (full_mask shape) n ≡ true
-    by zero e = absurd (omega (arith, some, e))
-    by (suc n) e =
-        let many = length-append (map (λ (channel : Channel). channel.ty) shape.channels) (stamp_formats shape.stamp) in
-        let types = length-map shape.channels (λ (channel : Channel). channel.ty) in
-        let has_it : has (full_mask shape) n ≡ true = ap (λ (b : ℕ). b == 1) (bit_at_ones (count_of shape) n (omega (arith, e, many, types))) in
-        ap (λ (b : Bool). b || has_below (full_mask shape) n) has_it
+full_has shape some = grind (arith, common_steps, bit_at_ones)
 
 pub as_many : (triggers : List TriggerDesc) (states : List State) → map (λ (s : State). s.places) states ≡ map (λ (t : TriggerDesc). t.places) triggers
     → length states ≡ length triggers
-as_many triggers states e =
-    sym (length_map_is (λ (s : State). s.places) states) ∙ ap (λ (ns : List ℕ). length ns) e ∙ length_map_is (λ (t : TriggerDesc). t.places) triggers
+as_many triggers states e = grind (arith, common_steps)
 
 -- ---- places
 
--- a change of the places at a trigger leaves its entries
-places_tell : (b : Bool) (places : List Place) (s s' : State) → s' ≡ cond b (record s { attached = places }) s → trigger_of s' ≡ trigger_of s
-places_tell true places s s' e = ap trigger_of e
-places_tell false places s s' e = ap trigger_of e
-
 places_left : (b : Bool) (places : List Place) (s s' : State) → s' ≡ cond b s (record s { attached = places }) → trigger_of s' ≡ trigger_of s
-places_left true places s s' e = ap trigger_of e
-places_left false places s s' e = ap trigger_of e
+places_left b places s s' e = search rules
 
 pub joins_tell : (mask : Mask) (capacity : ℕ) (cyclic : Bool) (inner : Option ℕ) (number : ℕ) (shape : ShapeRecord) (r : Result Seat No) (st st' : Station)
     (s s' : State) → JoinsAny (joining_of number shape mask capacity cyclic inner) r st st' s s' → trigger_of s' ≡ trigger_of s
-joins_tell mask capacity cyclic inner number shape (Ok seat) st st' s s' j = places_tell (is_empty st.members) _ s s' j.2
-joins_tell mask capacity cyclic inner number shape (Err x) st st' s s' j = ap trigger_of j.2
+joins_tell mask capacity cyclic inner number shape r st st' s s' j = search rules
 
 pub leaves_tell : (number : ℕ) (st st' : Station) (s s' : State) → s' ≡ place_left number st st' s → trigger_of s' ≡ trigger_of s
 leaves_tell number st st' s s' e = places_left (is_empty st.members || not (is_empty st'.members)) _ s s' e
 
 -- a site that is attached
 pub attached_trigger : (b : Bool) (site : Site ℕ) → (attached b site).trigger ≡ site.trigger
-attached_trigger true site = refl
-attached_trigger false site = refl
+attached_trigger b site = search rules
 
 pub attached_plugged : (b : Bool) (site : Site ℕ) → (attached b site).plugged ≡ site.plugged
-attached_plugged true site = refl
-attached_plugged false site = refl
+attached_plugged b site = search rules
 
 -- another member, which isn't the inner one of averaging device j
 pub inner_more : (j : ℕ) (ms : List Member) (m : Member) → is_inner_of j m ≡ false → list_any (is_inner_of j) (ms ++ m ∷ []) ≡ list_any (is_inner_of j) ms
@@ -115,35 +92,19 @@ inner_more j (x ∷ ms) m none = ap (λ (b : Bool). is_inner_of j x || b) (inner
 -- a seat can't take an inner member away
 pub inner_left : (n j : ℕ) (ms : List Member) → list_any (is_inner_of j) (filter (λ (x : Member). not (is_seat_of n x)) ms) ≡ list_any (is_inner_of j) ms
 inner_left n j [] = refl
-inner_left n j (x ∷ ms) = by x.inner (x.number == n) (inner_left n j ms)
-  where
-    by : (o : Option ℕ) (b : Bool) → list_any (is_inner_of j) (filter (λ (y : Member). not (is_seat_of n y)) ms) ≡ list_any (is_inner_of j) ms
-        → list_any (is_inner_of j)
-        (cond (not (is_none o && b)) (record x { inner = o } ∷ filter (λ (y : Member). not (is_seat_of n y)) ms)
-        (filter (λ (y : Member). not (is_seat_of n y)) ms))
-        ≡ (option_map_or (λ (i : ℕ). i == j) o false || list_any (is_inner_of j) ms)
-    by None true rest = rest
-    by None false rest = rest
-    by (Some i) b rest = ap (λ (c : Bool). i == j || c) rest
+inner_left n j (x ∷ ms) = search (rules, is_none, inner_left n j ms)
 
 pub some_more : (ms : List Member) (m : Member) → is_empty (ms ++ m ∷ []) ≡ false
-some_more [] m = refl
-some_more (x ∷ ms) m = refl
+some_more ms m = grind (arith, common_steps)
 
 -- a device that has a member and keeps one keeps its place
 members_kept : (st st' : Station) → is_empty st.members ≡ false → is_empty st'.members ≡ false → st'.site.trigger ≡ st.site.trigger
     → st'.site.attachment ≡ st.site.attachment → KeepsPlace st st'
-members_kept st st' some some' trigger attachment = record {
-  attached = λ t. rw (some, some', trigger) refl;
-  attachment = attachment;
-}
+members_kept st st' some some' trigger attachment = search rules
 
 -- a device that has no member and gets none keeps its place
 none_kept : (st st' : Station) → is_empty st.members ≡ true → is_empty st'.members ≡ true → st'.site.attachment ≡ st.site.attachment → KeepsPlace st st'
-none_kept st st' none none' attachment = record {
-  attached = λ t. none_attached t st' none' ∙ sym (none_attached t st none);
-  attachment = attachment;
-}
+none_kept st st' none none' attachment = search rules
 
 -- a device without a trigger has no member
 pub hosted_none : (n : ℕ) (st : Station) → st.site.trigger ≡ None → is_hosted n st ≡ true → is_empty st.members ≡ true
@@ -151,26 +112,18 @@ hosted_none n st none h = sym (ap (λ (o : Option ℕ). hosts n (is_empty st.mem
 
 -- a device with a trigger has one of those that are there
 pub hosted_within : (n t : ℕ) (st : Station) → st.site.trigger ≡ Some t → is_hosted n st ≡ true → t < n
-hosted_within n t st on h =
-    let there : nat_lt t n ≡ true = sym (ap (λ (o : Option ℕ). hosts n (is_empty st.members) o) on) ∙ h in
-    grind (arith, nat_tests)
+hosted_within n t st on h = search rules
 
 none_filtered : (p : Member → Bool) (ms : List Member) → is_empty ms ≡ true → is_empty (filter p ms) ≡ true
-none_filtered p [] e = refl
-none_filtered p (m ∷ ms) e = absurd (cc)
+none_filtered p ms e = search rules
 
 -- no member leaves a device without one
 left_none : (n : ℕ) (st : Station) → st.members ≡ [] → station_after_leave n st ≡ st
-left_none n st none =
-    let left_by : station_after_leave n st ≡ (let x : Station = record st { members = [] } in x) = rw none refl in
-    left_by ∙ ap (λ (ms : List Member). (let x : Station = record st { members = ms } in x)) (sym none)
+left_none n st none = search rules
 
 -- no inner member leaves a device without a member
 pub gone_none : (j : ℕ) (st : Station) → is_empty st.members ≡ true → inner_gone j st ≡ st
-gone_none j st empty =
-    let none = empty_list st.members empty in
-    let gone_by : inner_gone j st ≡ (let x : Station = record st { members = [] } in x) = rw none refl in
-    gone_by ∙ ap (λ (ms : List Member). (let x : Station = record st { members = ms } in x)) (sym none)
+gone_none j st empty = search rules
 
 -- ---- what holds after a joining and a leaving
 
@@ -217,32 +170,20 @@ module _ (triggers : List TriggerDesc) (states : List State) (sts : List Station
       (members_kept st st' some some' (ap (λ (x : Site ℕ). x.trigger) site) (ap (λ (x : Site ℕ). x.attachment) site)) after
 
   pub bench_left : (n : ℕ) → st' ≡ station_after_leave n st → s' ≡ place_left k st st' s → IsBench triggers (set states t s') (set sts k st')
-  bench_left n is after =
-      gone_by (is_empty st.members) (is_empty st'.members) refl refl
-      (λ none. ap (λ (x : Station). is_empty x.members) is ∙ none_filtered (λ (x : Member). not (is_seat_of n x)) st.members none)
-      (ap (λ (x : Station). x.site) is) after
+  bench_left n is after = search (rules, gone_by, none_filtered)
 
   -- the inner member of averaging device j leaves it
   pub bench_gone : (j : ℕ) → st' ≡ inner_gone j st → s' ≡ place_left k st st' s → IsBench triggers (set states t s') (set sts k st')
-  bench_gone j is after =
-      gone_by (is_empty st.members) (is_empty st'.members) refl refl
-      (λ none. ap (λ (x : Station). is_empty x.members) is ∙ none_filtered (λ (x : Member). not (is_inner_of j x)) st.members none)
-      (ap (λ (x : Station). x.site) is) after
+  bench_gone j is after = search (rules, gone_by, none_filtered)
 
 -- ---- what holds of the devices holds whichever driver they sample by
 
 module _ {X : Type 0} {V : X → Type 0} (p q : Plug X V → Driver) where
   places_as : (t dev : ℕ) (ds : List (AnyDevice X V)) → places_from dev t (map (any_station p) ds) ≡ places_from dev t (map (any_station q) ds)
   places_as t dev [] = refl
-  places_as t dev (any.Input d ∷ ds) =
-      ap (λ (rest : List Place). cond (is_attached t (attachment_of (in_station q d)))
-      (record { dev = dev; attachment = d.device.core.attachment } ∷ rest) rest) (places_as t (suc dev) ds)
-  places_as t dev (any.Output x ∷ ds) =
-      ap (λ (rest : List Place). cond (is_attached t (attachment_of (out_station x))) (record { dev = dev; attachment = x.starts } ∷ rest) rest)
-      (places_as t (suc dev) ds)
-  places_as t dev (any.Average a ∷ ds) =
-      ap (λ (rest : List Place). cond (is_attached t (attachment_of (mean_station a))) (record { dev = dev; attachment = a.starts } ∷ rest) rest)
-      (places_as t (suc dev) ds)
+  places_as t dev (any.Input d ∷ ds) = simp (places_as t (suc dev) ds)
+  places_as t dev (any.Output x ∷ ds) = simp (places_as t (suc dev) ds)
+  places_as t dev (any.Average a ∷ ds) = simp (places_as t (suc dev) ds)
 
   pub sound_as : (triggers : List TriggerDesc) (states : List State) (ds : List (AnyDevice X V)) → IsBench triggers states (stations_by p ds)
       → IsBench triggers states (stations_by q ds)
@@ -255,29 +196,12 @@ module _ {X : Type 0} {V : X → Type 0} (p q : Plug X V → Driver) where
 
   each_as : (ds : List (AnyDevice X V)) (i : ℕ) → KeepsStanding (station_in (map (any_station p) ds) i) (station_in (map (any_station q) ds) i)
   each_as [] i = stands_same no_station no_station refl
-  each_as (d ∷ ds) zero = record {
-    inner = record {
-      place = record { attached = λ t. attached_as q p t d; attachment = attachment_as q p d };
-      hosted = λ n h. hosted_as q p n d ∙ h;
-      plugged = plugged_as q p d;
-      empty = members_as q p d;
-      inner = λ j. inner_as q p j d;
-    };
-    captures = made_as q p d;
-  }
+  each_as (d ∷ ds) zero = search rules
   each_as (d ∷ ds) (suc i) = each_as ds i
 
   pub averaged_as : (triggers first : ℕ) (heads : List DeviceHead) (ds : List (AnyDevice X V)) → IsAveraged triggers first heads (stations_by p ds)
       → IsAveraged triggers first heads (stations_by q ds)
-  averaged_as triggers first heads ds a =
-      averaged_each triggers first heads (stations_by p ds) (stations_by q ds) a (λ i. (each_as ds i).inner)
-      (λ j base window is. (
-      let own = a.inners j base window is in
-      let fewer = own.fewer in
-      let most = own.most in
-      let s = (each_as ds j).captures in
-      let b = (each_as ds base).captures in (omega (arith, fewer, s, b), omega (arith, most, b))
-      ))
+  averaged_as triggers first heads ds a = search (rules, averaged_each, each_as)
 
 pub kind_there : {X : Type 0} {V : X → Type 0} (ds : List (AnyDevice X V)) (k : ℕ) (d : AnyDevice X V) → slice_get ds k ≡ Some d
     → kind_in (map any_front ds) k ≡ (any_front d).kind
@@ -289,19 +213,14 @@ pub record IsMean (kind : Kind) (base : ℕ) : Type 0 where
   pub is : kind ≡ Average base window
 
 pub mean_of : (kind : Kind) (base : ℕ) → base_of kind ≡ Some base → IsMean kind base
-mean_of Input base e = absurd (cc)
-mean_of Output base e = absurd (cc)
-mean_of (Average b window) base e = let same : b ≡ base = cc in record { window = window; is = ap (λ (n : ℕ). Average n window) same }
+mean_of kind base e = search rules
 
 pub plain_of : (kind : Kind) → base_of kind ≡ None → is_average kind ≡ false
-plain_of Input e = refl
-plain_of Output e = refl
-plain_of (Average b window) e = absurd (cc)
+plain_of kind e = search rules
 
 -- only a writer may have a cycle
 pub cycle_written : (cyclic b : Bool) → b ≡ true → (cyclic && not b) ≡ false
-cycle_written true b e = ap not e
-cycle_written false b e = refl
+cycle_written cyclic b e = search rules
 
 pub average_of : (kind : Kind) (base : ℕ) → base_of kind ≡ Some base → is_average kind ≡ true
 average_of kind base e = let mean = mean_of kind base e in ap is_average mean.is
@@ -310,12 +229,7 @@ average_of kind base e = let mean = mean_of kind base e in ap is_average mean.is
 pub base_within : {X : Type 0} {V : X → Type 0} (triggers first : ℕ) (sts : List Station) (ds : List (AnyDevice X V)) (k base : ℕ) (d : AnyDevice X V)
     → IsAveraged triggers first (map any_front ds) sts → slice_get ds k ≡ Some d
     → base_of (any_front d).kind ≡ Some base → base < length ds
-base_within triggers first sts ds k base d a at e =
-    let mean = mean_of (any_front d).kind base e in
-    let before = (a.bases.bases k base mean.window (kind_there ds k d at ∙ mean.is)).before in
-    let within = a.bases.within in
-    let many = length_map_is any_front ds in
-    omega (arith, before, within, many)
+base_within triggers first sts ds k base d a at e = search (rules, mean_of, any_front, kind_there, length_map_is)
 
 pub mean_trigger : (front : Front) (m : Machine) (k base window : ℕ) → kind_at front k ≡ Average base window
     → trigger_told_of front m k ≡ (station_at m base).site.trigger
@@ -339,11 +253,7 @@ module _ {X : Type 0} {V : X → Type 0} (drive : Plug X V → Driver) where
       (d : AnyDevice X V) (at : slice_get ds k ≡ Some d)
       (plain : is_average (any_front d).kind ≡ false) where
     pub hosted_at : is_hosted triggers (any_station drive d) ≡ true
-    hosted_at =
-        hosted_as drive (λ p. no_driver) triggers d
-        ∙ ap (λ (st : Station). is_hosted triggers st)
-        (sym (here_is (map (any_station (λ p. no_driver)) ds) k (any_station (λ p. no_driver) d) (map_at (any_station (λ p. no_driver)) ds k d at)))
-        ∙ averaged.hosted k (ap is_average (kind_there ds k d at) ∙ plain)
+    hosted_at = search (rules, hosted_as, here_is, map_at, kind_there)
 
   pub hosted_by_states : (triggers : List TriggerDesc) (states : List State) (ds : List (AnyDevice X V)) (first : ℕ)
       → IsBench triggers states (stations_by (λ p. no_driver) ds)
@@ -423,23 +333,13 @@ module _ {X : Type 0} {V : X → Type 0} (drive : Plug X V → Driver) where
     pub open_seat : (mask : Mask) (st st' : Station) (s s' : State) (r : Result Seat No)
         → JoinsAny (joining_of (number_by d) (any_front d).shape mask capacity cyclic None) r st st' s s'
         → IfOk r (λ x. IsNew (fronts_by any_front context triggers ds) k mask.bits capacity (seen_of x))
-    open_seat mask st st' s s' (Ok seat) j = record {
-      owned = record {
-        under = ap (λ (x : Seat). x.mask.bits) j.0;
-        sized = ap (λ (x : Seat). x.size) j.0 ∙ ap (λ (shape : ShapeRecord). scan_size shape mask.bits) (sym shaped);
-        bounded = ap (λ (x : Seat). x.capacity) j.0;
-      };
-      fresh = refl;
-    }
-    open_seat mask st st' s s' (Err x) j = tt
+    open_seat mask st st' s s' r j = search (rules, shaped)
 
     -- if it is hosted by a trigger that is there, that has a place for it
     pub open_may : (mask t : ℕ) (s : State) → HostsAny states (any_front d).kind (number_by d) (any_front d).shape (any_station drive d) mask (Ok t)
         → slice_get states t ≡ Some s
         → first_refusal (any_refusals (has_no_place (number_by d) s) (any_front d).kind (any_front d).shape (any_station drive d) mask) ≡ None
-    open_may mask t s hosts there =
-        let lacks : lacks_place (number_by d) states (any_station drive d).site.trigger ≡ has_no_place (number_by d) s = rw (hosts.0, there) refl in
-        ap (λ (b : Bool). first_refusal (any_refusals b (any_front d).kind (any_front d).shape (any_station drive d) mask)) (sym lacks) ∙ hosts.2
+    open_may mask t s hosts there = search rules
 
   -- ---- what holds after a joining and a leaving
 
@@ -507,9 +407,7 @@ module _ {X : Type 0} {V : X → Type 0} (drive : Plug X V → Driver) where
         (ap (λ (x : Station). x.site.trigger) j.1 ∙ attached_trigger (is_empty (any_station drive d).members) (any_station drive d).site ∙ own) within)
         (record {
           plugged = ap (λ (x : Station). x.site.plugged) j.1 ∙ attached_plugged (is_empty (any_station drive d).members) (any_station drive d).site;
-          inner =
-              λ i. ap (λ (x : Station). has_inner i x) j.1
-              ∙ inner_more i (any_station drive d).members (newcomer mask.bits capacity cyclic None (any_station drive d)) refl;
+          inner = search (rules, inner_more);
           captures = ap (λ (x : Station). x.captures) j.1;
         })
     averaged_joins mask capacity cyclic (Err x) s s' j =
@@ -535,9 +433,7 @@ module _ {X : Type 0} {V : X → Type 0} (drive : Plug X V → Driver) where
       (at : slice_get ds k ≡ Some d) (plain : is_average (any_front d).kind ≡ false) (n : ℕ) where
     closed_is : machine_after_close (fronts_by any_front context triggers ds) (machine_by (any_station drive) clock ts ds) k n
         ≡ with_station (station_after_leave n) k (machine_by (any_station drive) clock ts ds)
-    closed_is =
-        closed_alone (fronts_by any_front context triggers ds) k (ap is_average (kind_is any_front context triggers ds k d at) ∙ plain)
-        (machine_by (any_station drive) clock ts ds) n
+    closed_is = search (rules, closed_alone, any_front, kind_is)
 
     pub told_leaves : (d' : AnyDevice X V) → any_station drive d' ≡ station_after_leave n (any_station drive d)
         → Some (machine_by (any_station drive) clock ts (set ds k d'))
@@ -566,10 +462,7 @@ module _ {X : Type 0} {V : X → Type 0} (drive : Plug X V → Driver) where
       → xs ≡ states → slice_get ds k ≡ Some e → slice_get ds k ≡ Some d
       → HostsAny xs (any_front e).kind (number_by e) (any_front e).shape (any_station drive e) mask r
       → HostsAny states (any_front d).kind (number_by d) (any_front d).shape (any_station drive d) mask r
-  hosts_along xs states ds k e d mask r same at_e at_d h =
-      subst (λ (x : AnyDevice X V). HostsAny states (any_front x).kind (number_by x) (any_front x).shape (any_station drive x) mask r)
-      (same_element ds k e d at_e at_d)
-      (subst (λ (ys : List State). HostsAny ys (any_front e).kind (number_by e) (any_front e).shape (any_station drive e) mask r) same h)
+  hosts_along xs states ds k e d mask r same at_e at_d h = search rules
 
   pub own_along : (ds : List (AnyDevice X V)) (k t : ℕ) (e d : AnyDevice X V) → slice_get ds k ≡ Some e → slice_get ds k ≡ Some d
       → Some t ≡ (any_station drive e).site.trigger → (any_station drive d).site.trigger ≡ Some t

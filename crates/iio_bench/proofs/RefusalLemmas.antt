@@ -1,21 +1,19 @@
 -- The refusals of another member at a bench are those by its triggers.
-use Rattle.std.proofs.Common.{◌≡◌, ℕ, zero, suc, ◌-◌, ◌^◌, Bool, true, false, List, [], ◌∷◌, map, length, slice_get, Option, Some, None, refl, ap, ◌∙◌, arith}
-use Rattle.std.specs.Prelude.{◌==◌, ◌&&◌, ◌||◌, not, nat_lt, is_none}
+use Rattle.std.proofs.Common.{◌≡◌, ℕ, zero, suc, ◌-◌, Bool, true, false, List, [], ◌∷◌, map, length, slice_get, Option, Some, None, refl, ap, ◌∙◌, arith, rules}
+use Rattle.std.specs.Prelude.{◌&&◌, ◌||◌, nat_lt, is_none}
 use Rattle.std.specs.Option.{option_map_or}
 use Rattle.std.proofs.lemmas.Bool.Decides.{nat_tests}
 use Rattle.iio_base.specs.Refusals.{first_refusal}
-use Rattle.iio_text.specs.declared.errors.Errno.TheVariants.{EBUSY, ENODEV}
 use Rattle.iio_layout.specs.Shape.{ShapeRecord}
 use Rattle.iio_desc.specs.declared.description.TriggerDesc.{TriggerDesc}
-use Rattle.iio_desc.specs.Kind.{Kind, is_output}
+use Rattle.iio_desc.specs.Kind.{Kind}
 use Rattle.iio_trigger.specs.Trigger.{State, holds_place}
-use Rattle.iio_device.specs.Active.{is_without_union}
 use Rattle.iio_device.specs.Device.{has_no_place as has_no_place_for}
 use Rattle.iio_device.specs.Site.{is_empty}
 use Rattle.iio_core.specs.Attached.{attached_count, has_no_place}
 use Rattle.iio_core.specs.Front.{Front, place_count}
 use Rattle.iio_core.specs.Machine.{Station, masks_of, attachments_of}
-use Rattle.iio_core.specs.Opening.{join_refusals, own_host}
+use Rattle.iio_core.specs.Opening.{own_host}
 use Rattle.iio_core.specs.Calls.{open_refusals}
 use Rattle.iio_kinds.specs.Faults.{any_refusals, lacks_place}
 use Rattle.iio_bench.specs.Triggers.{IsBench}
@@ -48,26 +46,14 @@ module _ (front : Front) (states : List State) (sts : List Station) (k : ℕ) (s
       rw (room, nowhere) refl
 
   pub lacks_is : (trigger : Option ℕ) → has_no_place front (attachments_of sts) trigger ≡ lacks_place k states trigger
-  lacks_is None = refl
-  lacks_is (Some t) = lacks_at t (slice_get states t) refl
-
-or_twice : (x z : Bool) → ((x || z) || z) ≡ (x || z)
-or_twice true z = refl
-or_twice false true = refl
-or_twice false false = refl
+  lacks_is trigger = search (rules, lacks_at)
 
 full_same : (b x y z : Bool) → (b ≡ true → y ≡ x) → (((b && y) || z) || z) ≡ ((b && x) || z)
-full_same true x y z same = rw (same refl) (or_twice x z)
-full_same false x y z same = or_twice false z
+full_same b x y z same = search rules
 
 -- the refusals by the plain state are those by the triggers
 pub refusals_any : (front : Front) (states : List State) (sts : List Station) (k : ℕ) (kind : Kind) (shape : ShapeRecord) (st : Station) (mask : ℕ)
     → IsBench front.triggers states sts → slice_get sts k ≡ Some st
     → first_refusal (open_refusals front sts kind (own_host st shape mask (masks_of st.members)) st)
     ≡ first_refusal (any_refusals (lacks_place k states st.site.trigger) kind shape st mask)
-refusals_any front states sts k kind shape st mask bench at =
-    ap (λ (b : Bool). first_refusal
-    ((not st.site.plugged, ENODEV) ∷ (is_output kind && not (is_empty st.members), EBUSY)
-    ∷ join_refusals (is_none st.site.trigger) (is_without_union shape (masks_of st.members) mask) b))
-    (full_same (is_empty st.members) (lacks_place k states st.site.trigger) (has_no_place front (attachments_of sts) st.site.trigger) (st.next == 2 ^ 64 - 1)
-    (λ empty. lacks_is front states sts k st bench at empty st.site.trigger))
+refusals_any front states sts k kind shape st mask bench at = search (rules, is_none, full_same, lacks_is)

@@ -1,5 +1,5 @@
 -- What a REMASK keeps of a device's standing.
-use Rattle.std.proofs.Common.{◌≡◌, ℕ, Bool, true, false, cond, List, [], ◌∷◌, map, set, slice_get, Some, Result, refl}
+use Rattle.std.proofs.Common.{◌≡◌, ℕ, List, map, set, slice_get, Some, Result, rules}
 use Rattle.std.specs.Prelude.{ℤ}
 use Rattle.iio_desc.specs.declared.description.TriggerDesc.{TriggerDesc}
 use Rattle.iio_sensor.specs.Driver.{Driver}
@@ -8,7 +8,7 @@ use Rattle.iio_device.specs.Site.{is_empty}
 use Rattle.iiod_commands.specs.declared.iio.No.{No}
 use Rattle.iio_core.specs.Trigger.{Trigger}
 use Rattle.iio_core.specs.Calls.{is_inner_of, remask_of, station_after_remask, with_mask}
-use Rattle.iio_core.specs.Machine.{Member, MemberId, Station, is_seat_of, queue_of}
+use Rattle.iio_core.specs.Machine.{Member, MemberId, Station, queue_of}
 use Rattle.iiod_commands.specs.Seat.{Answers}
 use Rattle.iio_kinds.specs.Acting.{Acts}
 use Rattle.iio_kinds.specs.Remasking.{remask_answer}
@@ -21,20 +21,13 @@ use Rattle.iio_bench.proofs.ToldLemmas.{fronts_by, machine_by, shape_is, told_ac
 -- ---- what it keeps
 
 empty_map : {A B : Type 0} (f : A → B) (xs : List A) → is_empty (map f xs) ≡ is_empty xs
-empty_map f [] = refl
-empty_map f (x ∷ xs) = refl
+empty_map f xs = search rules
 
 remasked_inner : (n mask scans j : ℕ) (x : Member) → is_inner_of j (with_mask n mask scans x) ≡ is_inner_of j x
-remasked_inner n mask scans j x = by (is_seat_of n x)
-  where
-    by : (b : Bool) → is_inner_of j (cond b (record x { mask = mask; capacity = scans; scans = []; lost = 0 }) x) ≡ is_inner_of j x
-    by true = refl
-    by false = refl
+remasked_inner n mask scans j x = search rules
 
 pub remasked_stands : (n mask scans : ℕ) (st : Station) → KeepsStanding st (station_after_remask n mask scans st)
-remasked_stands n mask scans st =
-    standing st (station_after_remask n mask scans st) refl refl refl (empty_map (with_mask n mask scans) st.members)
-    (λ j. inner_mapped j (with_mask n mask scans) (remasked_inner n mask scans j) st.members) refl
+remasked_stands n mask scans st = search (rules, standing, empty_map, inner_mapped, remasked_inner)
 
 -- ---- the bench
 

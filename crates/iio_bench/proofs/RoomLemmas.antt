@@ -1,19 +1,16 @@
 -- Lines that are put together in room after what was printed.
-use borrow.Rule.Slice.PartMut.{mid_of, put_mid, post_of}
+use Rattle.std.proofs.lemmas.Grind.{common_steps}
+use borrow.Rule.Slice.PartMut.{mid_of, put_mid}
 use lib.Lanes.{chunk, put_chunk}
-use Rattle.std.proofs.Common.{◌≡◌, ◌+◌, ◌-◌, ◌++◌, ◌≤◌, ◌∙◌, ℕ, List, length, take, drop, ap, sym, arith}
-use Rattle.std.proofs.Math.Seq.{take-append-add, take-append_seam}
-use Rattle.std.proofs.lemmas.List.{append_assoc, length-append, length-drop, length-take-le, take-append-le, take-take, take_all}
+use Rattle.std.proofs.Common.{◌≡◌, ◌+◌, ◌-◌, ◌++◌, ◌≤◌, ◌∙◌, ℕ, List, length, take, drop, ap, arith}
+use Rattle.std.proofs.Math.Seq.{take-append-add}
+use Rattle.std.proofs.lemmas.List.{length-append, length-take-le, take-append-le, take-take}
 use Rattle.std.proofs.lemmas.Simd.{put_chunk_is}
 
 -- what was printed is still there, and the line after it
 pub line_stands : (old more room after final line : List ℕ) (start n end : ℕ) → start ≡ length old → room ≡ take (start + n) old ++ more
     → take end after ≡ take start room ++ line → final ≡ take end after → final ≡ old ++ line
-line_stands old more room after final line start n end long is put cut =
-    let all : take (start + n) old ≡ old = take_all (start + n) old (omega (arith, long)) in
-    let kept : take start room ≡ old =
-    ap (λ xs. take start xs) (is ∙ ap (λ xs. xs ++ more) all) ∙ ap (λ k. take k (old ++ more)) long ∙ take-append_seam old more in
-    cut ∙ put ∙ ap (λ xs. xs ++ line) kept
+line_stands old more room after final line start n end long is put cut = grind (arith, common_steps)
 
 -- the first bytes of a block at the beginning of a room, whatever comes after it
 block_first : (room block after tail : List ℕ) (n k : ℕ) → n ≤ length room → n ≤ length block → k ≤ n
@@ -34,18 +31,4 @@ block_first room block after tail n k fits whole most =
 pub block_stands : (items room block tail : List ℕ) (at n k len : ℕ) → room ≡ items → len ≡ length items → at + n ≤ length items → n ≤ length block → k ≤ n
     → take (at + k) (take len (put_mid at (length room - at) room (put_chunk 0 (mid_of at (length room - at) room) (chunk 0 n block)) ++ tail)) ≡ take at items
     ++ take k block
-block_stands items room block tail at n k len same whole fits filled most =
-    let front = take at room in
-    let behind = mid_of at (length room - at) room in
-    let after = post_of at (length room - at) room in
-    let middle = put_chunk 0 behind (chunk 0 n block) in
-    let as_long : length room ≡ length items = ap length same in
-    let long : length front ≡ at = length-take-le at room (omega (arith, as_long, fits)) in
-    let left : length (drop at room) ≡ length room - at = length-drop at room in
-    let wide : length behind ≡ length room - at = length-take-le (length room - at) (drop at room) (omega (arith, left)) in
-    take-take (at + k) len (put_mid at (length room - at) room middle ++ tail) (omega (arith, whole, fits, most))
-    ∙ ap (take (at + k)) (append_assoc front (middle ++ after) tail)
-    ∙ ap (λ l. take (l + k) (front ++ ((middle ++ after) ++ tail))) (sym long)
-    ∙ take-append-add front ((middle ++ after) ++ tail) k
-    ∙ ap (λ xs. front ++ xs) (block_first behind block after tail n k (omega (arith, wide, as_long, fits)) filled most)
-    ∙ ap (λ xs. take at xs ++ take k block) same
+block_stands items room block tail at n k len same whole fits filled most = grind (arith, common_steps, take-append-add, block_first)

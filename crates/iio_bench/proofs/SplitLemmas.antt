@@ -1,23 +1,16 @@
 -- The averaging devices of a bench and the others.
-use Rattle.std.proofs.Common.{◌≡◌, ℕ, zero, suc, ◌+◌, ◌<◌, Bool, true, false, cond, All, List, [], ◌∷◌, ◌++◌, map, length, take, drop, slice_get, Some, refl, sym, ap, subst, ◌∙◌, arith}
+use Rattle.std.proofs.Common.{◌≡◌, ℕ, zero, suc, ◌+◌, ◌<◌, Bool, true, false, cond, All, List, [], ◌∷◌, ◌++◌, map, length, take, drop, slice_get, Some, refl, sym, ap, subst, ◌∙◌, arith, rules}
 use Rattle.std.specs.Option.{option_map_or}
 use Rattle.iio_sensor.specs.Driver.{Driver}
-use Rattle.iio_layout.specs.Shape.{ShapeRecord}
-use Rattle.iio_desc.specs.Kind.{Kind, Input, Output, Average, is_average, is_unplugged_by}
+use Rattle.iio_desc.specs.Kind.{is_average, is_unplugged_by}
 use Rattle.iio_device.specs.declared.plug.Plug.{Plug}
 use Rattle.iio_core.specs.Machine.{Station, with_site}
-use Rattle.iio_core.specs.Moves.{Capture}
 use Rattle.iio_device.specs.Site.{unplugged}
 use Rattle.iio_kinds.specs.declared.any_device.AnyDevice.{AnyDevice}
 use Rattle.iio_bench.specs.Averages.{HasBases}
 use Rattle.iio_kinds.specs.Station.{KeepsFront, any_front, any_station, full_scan_by}
-use Rattle.iio_bench.specs.Together.{AreGathered, IsGathered, IsUnplugged, scan_at, with_capture}
+use Rattle.iio_bench.specs.Together.{AreGathered, IsGathered, IsUnplugged, scan_at}
 use Rattle.iio_bench.proofs.OpenLemmas.{kind_there}
-
-plain_stays : (base : ℕ) (c : Capture) (kind : Kind) (shape : ShapeRecord) (st : Station) → is_average kind ≡ false → st ≡ with_capture base c kind shape st
-plain_stays base c Input shape st plain = refl
-plain_stays base c Output shape st plain = refl
-plain_stays base c (Average b window) shape st plain = absurd (cc)
 
 pub all_back : {A : Type 0} (P : A → Type 0) (xs ys : List A) → All P (xs ++ ys) → All P ys
 all_back P [] ys all = all
@@ -44,10 +37,7 @@ refilled {A = A} (suc n) (w ∷ ws) (x ∷ old) many same = ap (λ (zs : List A)
 
 module _ {X : Type 0} {V : X → Type 0} (drive : Plug X V → Driver) (base : ℕ) (scan : List ℕ) where
   stays : (d : AnyDevice X V) → is_average (any_front d).kind ≡ false → IsGathered drive base scan d d
-  stays d plain = record {
-    keeps = record { head = record { front = refl; number = refl }; captures = refl };
-    station = λ c taken. plain_stays base c (any_front d).kind (any_front d).shape (any_station drive d) plain;
-  }
+  stays d plain = search rules
 
   beside : (os xs ys : List (AnyDevice X V)) → ((i : ℕ) (o : AnyDevice X V) → slice_get os i ≡ Some o → is_average (any_front o).kind ≡ false)
       → AreGathered drive base scan xs ys → AreGathered drive base scan (os ++ xs) (os ++ ys)
@@ -96,7 +86,4 @@ module _ {X : Type 0} {V : X → Type 0} (drive : Plug X V → Driver) (dev i : 
 -- a device that stays
 pub stays_here : {X : Type 0} {V : X → Type 0} (drive : Plug X V → Driver) (dev i : ℕ) (x : AnyDevice X V) → is_unplugged_by (any_front x).kind dev i ≡ false
     → IsUnplugged drive dev i x x
-stays_here drive dev i x stays = record {
-  keeps = record { head = record { front = refl; number = refl }; captures = refl };
-  station = sym (ap (λ (b : Bool). cond b (with_site unplugged (any_station drive x)) (any_station drive x)) stays);
-}
+stays_here drive dev i x stays = search rules

@@ -1,5 +1,5 @@
 -- Several devices that change one after another.
-use Rattle.std.proofs.Common.{◌≡◌, ◌⊎◌, ℕ, zero, suc, ◌+◌, ◌<◌, ◌≤◌, All, List, [], ◌∷◌, length, map, set, slice_get, Some, inl, inr, refl, sym, ap, subst, ◌∙◌, arith}
+use Rattle.std.proofs.Common.{◌≡◌, ◌⊎◌, ℕ, zero, suc, ◌+◌, ◌<◌, ◌≤◌, All, List, [], ◌∷◌, length, map, set, slice_get, Some, refl, ap, subst, ◌∙◌, arith, rules}
 use Rattle.iio_core.specs.Lists.{map_from}
 use Rattle.iio_bench.specs.Triggers.{IsNumbered}
 use Rattle.iio_bench.specs.Together.{Together}
@@ -30,14 +30,7 @@ module _ {D : Type 0} (R : ℕ → D → D → Type 0) where
   }
     where
       by : (k : ℕ) (d d' : D) → k < i + 1 → slice_get old k ≡ Some d → ((k ≡ i) × (d' ≡ x')) ⊎ ((k ≡ i → ⊥) × (slice_get new k ≡ Some d')) → R k d d'
-      by k d d' less at (inl q) =
-          let was : slice_get old i ≡ Some d = ap (λ (n : ℕ). slice_get old n) (sym q.0) ∙ at in
-          let same : x ≡ d = (let h : Some x ≡ Some d = sym here ∙ p.rest i (omega arith) ∙ was in cc) in
-          subst (λ (n : ℕ). R n d d') (sym q.0) (subst (λ (y : D). R i y d') same (subst (λ (y : D). R i x y) (sym q.1) changes))
-      by k d d' less at (inr q) = let apart = q.0 in p.done k d d' (below k less apart) at q.1
-        where
-          below : (k : ℕ) → k < i + 1 → (k ≡ i → ⊥) → k < i
-          below k less apart = omega (arith, less, apart)
+      by k d d' less at h1 = search rules
 
       others : (xs : List D) (i k : ℕ) (y : D) → suc i ≤ k → slice_get (set xs i y) k ≡ slice_get xs k
       others [] i k y less = refl
@@ -47,12 +40,7 @@ module _ {D : Type 0} (R : ℕ → D → D → Type 0) where
 
   -- number i stays
   pub partly_stays : (i : ℕ) (old new : List D) (x : D) → slice_get new i ≡ Some x → R i x x → Partly i old new → Partly (i + 1) old new
-  partly_stays i old new x here stays p = subst (λ (ys : List D). Partly (i + 1) old ys) (same new i x here) (partly_next i old new x x here stays p)
-    where
-      same : (xs : List D) (i : ℕ) (x : D) → slice_get xs i ≡ Some x → set xs i x ≡ xs
-      same [] i x at = refl
-      same (y ∷ ys) zero x at = let one : x ≡ y = cc in ap (λ (z : D). z ∷ ys) one
-      same (y ∷ ys) (suc i) x at = ap (λ (zs : List D). y ∷ zs) (same ys i x at)
+  partly_stays i old new x here stays p = search rules
 
 -- what holds of all elements holds of each
 pub all_at : {A : Type 0} (P : A → Type 0) (xs : List A) (i : ℕ) (x : A) → All P xs → slice_get xs i ≡ Some x → P x

@@ -1,5 +1,6 @@
 -- The told state after one device has changed.
-use Rattle.std.proofs.Common.{◌≡◌, ℕ, ◌≤◌, Bool, true, false, List, [], ◌∷◌, map, length, take, set, slice_get, Option, Some, None, Result, Ok, Err, inr, refl, sym, ap, subst, ◌∙◌, arith, cond, length-take}
+use Rattle.std.proofs.Common.{◌≡◌, ℕ, ◌≤◌, Bool, true, false, List, [], ◌∷◌, map, length, set, slice_get, Option, Some, None, Result, Ok, Err, sym, ap, subst, ◌∙◌, arith, cond, rules}
+use Rattle.std.proofs.lemmas.Grind.{common_steps}
 use Rattle.std.specs.Prelude.{◌==◌, ℤ, unwrap_or, drop, ⊤}
 use Rattle.std.specs.Option.{option_map_or}
 use Rattle.std.proofs.lemmas.Option.{slice_get_past}
@@ -65,8 +66,7 @@ module _ {D : Type 0} (f : D → Station) (clock : ℤ) (ts : List Trigger) (ds 
 
   pub told_changed : (change : Station → Station) → f d' ≡ change (f d) → machine_by f clock ts (set ds k d') ≡ with_station change k (machine_by f clock ts ds)
   unfolding with_station
-  told_changed change e =
-      ap (λ (sts : List Station). (let m : Machine = record { clock = clock; triggers = ts; stations = sts } in m)) (map_changed f ds k d d' change at e)
+  told_changed change e = search (rules, map_changed)
 
   some_same : f d' ≡ f d → Some (machine_by f clock ts (set ds k d')) ≡ Some (machine_by f clock ts ds)
   some_same e = ap (λ (m : Machine). Some m) (told_same e)
@@ -78,20 +78,13 @@ module _ {D : Type 0} (f : D → Station) (clock : ℤ) (ts : List Trigger) (ds 
   module _ {A : Type 0} (change : Station → Station) where
     by_answer : (x : Result A Errno) (r : Result A No) → Acts change x r (f d) (f d')
         → Answers (unless change k (machine_by f clock ts ds) x) (machine_by f clock ts ds) r (Some (machine_by f clock ts (set ds k d')))
-    by_answer (Ok x) (Ok y) t = (t.0, some_changed change t.1)
-    by_answer (Ok x) (Err (NoErrno e)) t = (t.0, some_changed change t.1)
-    by_answer (Ok x) (Err NoMem) t = some_same t
-    by_answer (Err e) (Ok y) t = (t.0, some_same t.1)
-    by_answer (Err e) (Err (NoErrno o)) t = (t.0, some_same t.1)
-    by_answer (Err e) (Err NoMem) t = some_same t
+    by_answer x r t = search (rules, some_changed, some_same)
 
     -- a call that can be refused
     pub told_acts : (answer : Station → Result A Errno) (r : Result A No) → Acts change (answer (f d)) r (f d) (f d')
         → Answers (unless change k (machine_by f clock ts ds) (answer (station_at (machine_by f clock ts ds) k))) (machine_by f clock ts ds) r
         (Some (machine_by f clock ts (set ds k d')))
-    told_acts answer r t =
-        subst (λ (x : Result A Errno). Answers (unless change k (machine_by f clock ts ds) x) (machine_by f clock ts ds) r
-        (Some (machine_by f clock ts (set ds k d')))) (ap answer (sym here)) (by_answer (answer (f d)) r t)
+    told_acts answer r t = grind (arith, common_steps, set, here, by_answer)
 
   pub told_write : (channel : Option ℕ) (a : Attr) (v : Fixed) (r : Result ⊤ No)
       → Acts (with_site (site_written channel a v)) (ensure (f d).site.plugged ENODEV) r (f d) (f d')
@@ -133,9 +126,7 @@ module _ {D : Type 0} (f : D → Station) (clock : ℤ) (ts : List Trigger) (ds 
       → f d' ≡ record (f d) { totals = with_given given (f d).totals; members = with_scans id (left (scans_in id (f d).members)) (f d).members }
       → Some (machine_by f clock ts (set ds k d')) ≡ Some (with_queue (machine_by f clock ts ds) k id given (left (queue_of (machine_by f clock ts ds) k id)))
   unfolding with_queue
-  told_gives id given left e =
-      rw (queue_is f clock ts ds k d at id)
-      (some_changed (λ st. record st { totals = with_given given st.totals; members = with_scans id (left (scans_in id (f d).members)) st.members }) e)
+  told_gives id given left e = search (rules, queue_is, some_changed, with_scans)
 
   pub told_take : (id : MemberId) (took : Took) (scan : List ℕ) → TakesAt id took scan (f d) (f d')
       → Takes (machine_by f clock ts ds) k id took scan (Some (machine_by f clock ts (set ds k d')))
@@ -147,20 +138,7 @@ module _ {D : Type 0} (f : D → Station) (clock : ℤ) (ts : List Trigger) (ds 
   pub told_take_scans : (s : SeatRecord) (most : ℕ) (took : Took) (before after : List ℕ) → s.trace ≡ None
       → TakesScansAt (seat_id s) most took before after (f d) (f d')
       → TakesScans k most (reading (Some (machine_by f clock ts ds)) s before) (reading (Some (machine_by f clock ts (set ds k d'))) s after) took
-  told_take_scans s most Scan before after untold t =
-      let scans : List (List ℕ) = take most (scans_in (seat_id s) (f d).members) in (
-        scans,
-        t.1,
-        record {
-          reads = record { some = t.0; most = omega (arith, length-take most (scans_in (seat_id s) (f d).members)); grown = inr (false, rw untold refl) };
-          same = refl;
-          from = (ap (λ (queue : List (List ℕ)). take most queue) (queue_is f clock ts ds k d at (seat_id s)), told_gives (seat_id s) scans (drop most) t.2);
-        },
-      )
-  told_take_scans s most Empty before after untold t =
-      (t.0, record { same = rw untold refl; from = (queue_is f clock ts ds k d at (seat_id s) ∙ t.1, plugged_is f clock ts ds k d at ∙ t.2, some_same t.3) })
-  told_take_scans s most Gone before after untold t =
-      (t.0, record { same = rw untold refl; from = (queue_is f clock ts ds k d at (seat_id s) ∙ t.1, plugged_is f clock ts ds k d at ∙ t.2, some_same t.3) })
+  told_take_scans s most took before after untold t = grind (arith, common_steps, queue_is, told_gives, plugged_is, some_same)
 
 -- ---- reads
 
@@ -222,5 +200,4 @@ name_there front t x at = ap (λ (o : Option TriggerDesc). option_map_or (λ (y 
 
 pub name_past : (front : Front) (t n : ℕ) → n ≡ length front.triggers → n ≤ t → [] ≡ trigger_name front t
 unfolding trigger_name
-name_past front t n e past =
-    ap (λ (o : Option TriggerDesc). option_map_or (λ (y : TriggerDesc). y.name) o []) (sym (slice_get_past front.triggers t (omega arith)))
+name_past front t n e past = search (rules, slice_get_past)

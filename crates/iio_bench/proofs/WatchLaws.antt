@@ -1,5 +1,5 @@
 -- What a watch is told of a feed in a script.
-use Rattle.std.proofs.Common.{◌≡◌, ℕ, false, List, [], ◌∷◌, ◌++◌, Option, Some, refl, sym, ap, ◌∙◌, subst, append-nil}
+use Rattle.std.proofs.Common.{◌≡◌, ℕ, false, List, [], ◌∷◌, Option, Some, refl, ap, rules}
 use Rattle.iiod_grammar.specs.Scans.{scan_on}
 use Rattle.iiod_grammar.specs.Stream.{Item, Scanned, Scanner, items_from, no_item}
 use Rattle.iiod_reply.specs.Reply.{Reply}
@@ -17,23 +17,18 @@ use Rattle.iio_history.specs.Told.{Told}
 use Rattle.iio_bench.specs.Connection.{IsHearing, arrival}
 use Rattle.iio_bench.specs.Feeding.{FeedState}
 use Rattle.iio_bench.specs.Guard.{TellsAll, Watches}
-use Rattle.iio_bench.proofs.FeedingLaws.{state_with}
 
 module _ {W : Type 0} (makes : Front → Option Machine → ℕ → Item → W → W → Type 0) (front : Front) where
   tells_run : (a b : Scene W) (items : List Item) (replies : List Reply) → a.told ≡ false → RunBy (IsHeard makes Script front) a items replies b
       → TellsAll makes front items a.watch b.watch
   tells_run a b [] [] first r = ap (λ (x : Scene W). x.watch) r
-  tells_run a b (item ∷ items) (reply ∷ replies) first r =
-      (r.0.watch, a.state.told, a.state.client.who, rw first at r.1.tells, tells_run r.0 b items replies r.1.next r.2)
+  tells_run a b (item ∷ items) (reply ∷ replies) first r = search (rules, tells_run r.0 b items replies r.1.next r.2)
   tells_run a b [] (reply ∷ replies) first r = absurd r
   tells_run a b (item ∷ items) [] first r = absurd r
 
   all_told : (x y : Feeding (Scene W)) (going : Going) → y.stream.items ≡ [] → x.state.told ≡ false
       → (h : Hears makes Script front x y going) → y.state ≡ h.mid → TellsAll makes front x.stream.items x.state.watch y.state.watch
-  all_told x y going none first h same =
-      let items : h.fed.items ≡ x.stream.items = sym (h.fed.heard ∙ ap (λ (xs : List Item). h.fed.items ++ xs) none ∙ append-nil h.fed.items) in
-      subst (λ (s : Scene W). TellsAll makes front x.stream.items x.state.watch s.watch) (sym same)
-      (subst (λ (xs : List Item). TellsAll makes front xs x.state.watch h.mid.watch) items (tells_run x.state h.mid h.fed.items h.fed.replies first h.fed.run))
+  all_told x y going none first h same = search (rules, tells_run)
 
   tells_all : (x y : Feeding (Scene W)) (going : Going) → (going ≡ On → y.stream.items ≡ []) → x.state.told ≡ false
       → Hears makes Script front x y going → TellsAll makes front x.stream.items x.state.watch y.state.watch
@@ -50,13 +45,11 @@ module _ {S : Type 0} (seen : S → SeatRecord) {W : Type 0} (makes : Front → 
       → TellsAll makes front (items_from begun bytes) w v
   watches front told told' x x' w v bytes before after going hears whole s m name begun h =
       let script : Hears makes Script front (feeding (scene_of seen told x.client w false) (scan_on (no_item begun) bytes) before)
-      (feeding (scene_of seen told' x'.client v (waits_in x'.stream.items)) x'.stream after) going =
-      rw (h.session.manner, h.session.stream) at hears in
+      (feeding (scene_of seen told' x'.client v (waits_in x'.stream.items)) x'.stream after) going = search rules in
       tells_all makes front _ _ going whole refl script
 
   pub watches_as : (x : FeedState S) (bytes : List ℕ) (session : SessionRecord S) (w v : W) → x.connection.session ≡ Some session
       → ((s : Setup) (m : Told) (name : List ℕ) (begun : Scanner) → IsHearing seen s m x.front x.told (arrival name begun bytes) session
       → TellsAll makes x.front (items_from begun bytes) w v)
       → Watches seen makes bytes x w v
-  watches_as x bytes session w v is told =
-      subst (λ (o : Option (SessionRecord S)). Watches seen makes bytes (state_with x o) w v) (sym is) (λ s n begun. told s n x.connection.name begun)
+  watches_as x bytes session w v is told = search rules

@@ -1,13 +1,13 @@
 -- A bench with several devices changed.
-use Rattle.std.proofs.Common.{◌≡◌, ◌⊎◌, ℕ, zero, suc, ◌+◌, ◌-◌, ◌^◌, ◌<◌, ◌≤◌, ℤ, Bool, true, false, All, List, [], ◌∷◌, map, length, set, slice_get, Option, Some, None, inl, inr, refl, sym, ap, subst, ◌∙◌, arith, cond}
-use Rattle.std.specs.Prelude.{◌==◌, ◌&&◌, ◌||◌, not, is_some}
+use Rattle.std.proofs.Common.{◌≡◌, ◌⊎◌, ℕ, zero, suc, ◌+◌, ◌-◌, ◌^◌, ◌<◌, ◌≤◌, ℤ, Bool, true, false, All, List, [], ◌∷◌, map, length, set, slice_get, Option, Some, None, inl, inr, refl, sym, ap, subst, ◌∙◌, arith, cond, rules}
+use Rattle.std.specs.Prelude.{◌==◌, ◌&&◌, not}
 use Rattle.std.specs.List.{list_any}
 use Rattle.std.specs.Option.{option_map_or}
 use Rattle.iio_sensor.specs.Driver.{Driver, ask_fails, values_of}
 use Rattle.iio_layout.specs.Shape.{ShapeRecord}
 use Rattle.iio_desc.specs.Description.{DeviceHead, no_shape, shape_of_means}
 use Rattle.iio_desc.specs.declared.description.TriggerDesc.{TriggerDesc}
-use Rattle.iio_desc.specs.Kind.{Kind, Input, Output, Average, is_average, is_unplugged_by}
+use Rattle.iio_desc.specs.Kind.{Kind, Input, Average, is_average, is_unplugged_by}
 use Rattle.iio_trigger.specs.Trigger.{Handed, State}
 use Rattle.iio_device.specs.declared.plug.Plug.{Plug}
 use Rattle.iio_device.specs.declared.handling.Handled.TheVariants.{Captured, Fault, Idle}
@@ -16,7 +16,7 @@ use Rattle.iio_core.specs.Trigger.{Trigger}
 use Rattle.iio_core.specs.Calls.{is_inner_of}
 use Rattle.iio_core.specs.Front.{Front, kind_at, shape_at}
 use Rattle.iio_core.specs.Machine.{Machine, Member, Station, station_in, with_site}
-use Rattle.iio_core.specs.Moves.{Capture, station_after_gathering, unplugs, machine_after_unplugging, entry_at, capture_at, capture_in, entry_answer, station_after_entry, is_due, machine_after_entry}
+use Rattle.iio_core.specs.Moves.{Capture, unplugs, machine_after_unplugging, entry_at, capture_at, capture_in, entry_answer, station_after_entry, is_due, machine_after_entry}
 use Rattle.iio_core.proofs.PlaceLists.{itself, same_number}
 use Rattle.iio_kinds.specs.declared.any_device.AnyDevice.{AnyDevice}
 use Rattle.iio_core.specs.declared.became.Became.{Became}
@@ -35,39 +35,23 @@ use Rattle.iio_bench.proofs.GatherLemmas.{averaged_handled, averaged_unplugged, 
 use Rattle.iio_bench.proofs.OpenLemmas.{averaged_as, kind_there, sound_any, sound_as}
 use Rattle.iio_bench.proofs.TogetherLemmas.{map_together, map_unmoved, numbered_together}
 use Rattle.iio_bench.proofs.ToldLemmas.{fronts_by, kind_is, machine_by, shape_is, station_is}
-use Rattle.iio_kinds.proofs.AnyCalls.{either}
 
 -- ---- one device in a handling
 
 -- the device itself
 entry_own : (o : Option Handed) (c : Option Capture) (k : ℕ) (kind : Kind) (shape : ShapeRecord) (st : Station) → (c ≡ capture_in kind shape o st)
     → entry_at o c k kind shape k st ≡ station_after_entry kind shape o st
-entry_own o c k Input shape st is = ap (λ (b : Bool). cond b (station_after_entry Input shape o st) st) (itself k)
-entry_own o c k Output shape st is = ap (λ (b : Bool). cond b (station_after_entry Output shape o st) st) (itself k)
-entry_own o c k (Average base window) shape st is =
-    ap (λ (x : Option Capture). cond (k == base) (station_after_gathering window shape x st) st) (is ∙ none o) ∙ either (k == base) st ∙ sym (stays o)
-  where
-    none : (o : Option Handed) → capture_in (Average base window) shape o st ≡ None
-    none None = refl
-    none (Some e) = either (is_due e st) None
-
-    stays : (o : Option Handed) → station_after_entry (Average base window) shape o st ≡ st
-    stays None = refl
-    stays (Some e) = either (is_due e st) st
+entry_own o c k kind shape st is = search rules
 
 -- another device, if there was a capture
 entry_other : (o : Option Handed) (c : Capture) (k : ℕ) (kind : Kind) (shape : ShapeRecord) (j : ℕ) (st : Station) → (k == j) ≡ false
     → with_capture k c kind shape st ≡ entry_at o (Some c) k kind shape j st
-entry_other o c k Input shape j st other = sym (ap (λ (b : Bool). cond b (station_after_entry Input shape o st) st) other)
-entry_other o c k Output shape j st other = sym (ap (λ (b : Bool). cond b (station_after_entry Output shape o st) st) other)
-entry_other o c k (Average base window) shape j st other = refl
+entry_other o c k kind shape j st other = search rules
 
 -- another device, if there was none
 entry_none : (o : Option Handed) (k : ℕ) (kind : Kind) (shape : ShapeRecord) (j : ℕ) (st : Station) → (k == j) ≡ false
     → st ≡ entry_at o None k kind shape j st
-entry_none o k Input shape j st other = sym (ap (λ (b : Bool). cond b (station_after_entry Input shape o st) st) other)
-entry_none o k Output shape j st other = sym (ap (λ (b : Bool). cond b (station_after_entry Output shape o st) st) other)
-entry_none o k (Average base window) shape j st other = sym (either (k == base) st)
+entry_none o k kind shape j st other = search rules
 
 -- ---- which answers are captures
 
@@ -91,27 +75,7 @@ captured_by e shape st n is = by (is_due e st) (ask_fails st.site.driver) refl r
 
 pub captured_is : (kind : Kind) (o : Option Handed) (ended : Bool) (shape : ShapeRecord) (st : Station) (n : ℕ)
     → Some (Asked (Captured n)) ≡ entry_became kind o ended st → IsCaptured kind o ended shape st
-captured_is kind None ended shape st n is = absurd (cc)
-captured_is kind (Some e) true shape st n is = absurd (cc)
-captured_is Input (Some e) false shape st n is = captured_by e shape st n (sym is)
-captured_is Output (Some e) false shape st n is = absurd (cc)
-captured_is (Average base window) (Some e) false shape st n is = absurd (cc)
-
--- a capture is answered
-answered_by : (e : Handed) (shape : ShapeRecord) (st : Station) (c : Capture) → capture_in Input shape (Some e) st ≡ Some c
-    → entry_answer Input (Some e) st ≡ Some (Asked (Captured (length st.members)))
-answered_by e shape st c is = by (is_due e st) (ask_fails st.site.driver) refl refl is
-  where
-    by : (a b : Bool) → is_due e st ≡ a → ask_fails st.site.driver ≡ b → capture_in Input shape (Some e) st ≡ Some c
-        → entry_answer Input (Some e) st ≡ Some (Asked (Captured (length st.members)))
-    by false b p q is = absurd (let h = rw p at is in cc)
-    by true true p q is = absurd (let h = rw (p, q) at is in cc)
-    by true false p q is = rw (p, q) refl
-
-no_capture : (kind : Kind) (e : Handed) (shape : ShapeRecord) (st : Station) → (kind ≡ Input) ⊎ (capture_in kind shape (Some e) st ≡ None)
-no_capture Input e shape st = inl refl
-no_capture Output e shape st = inr (either (is_due e st) None)
-no_capture (Average base window) e shape st = inr (either (is_due e st) None)
+captured_is kind o ended shape st n is = search (rules, captured_by)
 
 -- whether an answer is a capture
 abbrev pub is_capture : Option Became → Bool
@@ -121,18 +85,7 @@ is_capture became = false
 -- another answer made no capture
 none_captured : (kind : Kind) (o : Option Handed) (shape : ShapeRecord) (st : Station) (r : Option Became) → r ≡ entry_answer kind o st
     → is_capture r ≡ false → capture_in kind shape o st ≡ None
-none_captured kind None shape st r is other = refl
-none_captured kind (Some e) shape st r is other = by kind (no_capture kind e shape st) is
-  where
-    by : (kind : Kind) → (kind ≡ Input) ⊎ (capture_in kind shape (Some e) st ≡ None) → r ≡ entry_answer kind (Some e) st
-        → capture_in kind shape (Some e) st ≡ None
-    by kind (inr none) is = none
-    by kind (inl input) is =
-        rw input (cases (capture_in Input shape (Some e) st) refl (is ∙ ap (λ (y : Kind). entry_answer y (Some e) st) input))
-      where
-        cases : (c : Option Capture) → capture_in Input shape (Some e) st ≡ c → r ≡ entry_answer Input (Some e) st → c ≡ None
-        cases None same is = refl
-        cases (Some c) same is = absurd (let h = sym other ∙ ap is_capture (is ∙ answered_by e shape st c same) in cc)
+none_captured kind o shape st r is other = search rules
 
 -- ---- all devices
 
@@ -183,11 +136,7 @@ module _ {X : Type 0} {V : X → Type 0} (drive : Plug X V → Driver) (context 
   own_made c is = station ∙ sym (entry_own o c k (any_front d).kind (any_front d).shape (any_station drive d) (sym is))
 
   apart : (j : ℕ) → (j ≡ k → ⊥) → (k == j) ≡ false
-  apart j other = by (k == j) refl
-    where
-      by : (b : Bool) → (k == j) ≡ b → b ≡ false
-      by true e = absurd (other (sym (same_number k j e)))
-      by false e = refl
+  apart j other = search rules
 
   -- if there was no capture, only the device has changed
   pub told_alone : own_capture ≡ None → machine_by (any_station drive) clock ts (set ds k d') ≡ machine_after_entry front o k machine
@@ -195,12 +144,7 @@ module _ {X : Type 0} {V : X → Type 0} (drive : Plug X V → Driver) (context 
     where
       each : (j : ℕ) (x x' : AnyDevice X V) → slice_get ds j ≡ Some x → ((j ≡ k) × (x' ≡ d')) ⊎ ((j ≡ k → ⊥) × (slice_get ds j ≡ Some x'))
           → any_station drive x' ≡ made None j x
-      each j x x' there (inl p) =
-          let one : d ≡ x = (let h : Some d ≡ Some x = sym at ∙ ap (λ (i : ℕ). slice_get ds i) (sym p.0) ∙ there in cc) in
-          ap (any_station drive) p.1 ∙ own_made None none ∙ ap (λ (y : AnyDevice X V). made None k y) one ∙ ap (λ (i : ℕ). made None i x) (sym p.0)
-      each j x x' there (inr p) =
-          let one : x' ≡ x = (let h : Some x' ≡ Some x = sym p.1 ∙ there in cc) in
-          ap (any_station drive) one ∙ entry_none o k (any_front x).kind (any_front x).shape j (any_station drive x) (apart j p.0)
+      each j x x' there h1 = search (rules, own_made, entry_none, any_front, apart)
 
   -- if there was one, each averaging device over it takes it
   pub told_gathered : (c : Capture) (scan : List ℕ) (ds' : List (AnyDevice X V)) → own_capture ≡ Some c → (any_front d).kind ≡ Input → KeepsHead d d'
@@ -246,12 +190,7 @@ module _ {X : Type 0} {V : X → Type 0} (drive : Plug X V → Driver) (context 
 
 -- a scan of all channels of a device is also one by the shape of its means
 scan_means : (shape : ShapeRecord) (c : Capture) (scan : List ℕ) → IsScanOf shape c scan → IsScanOf (shape_of_means (Some shape)) c scan
-scan_means shape c scan x = record {
-  is = x.is;
-  size = x.size;
-  values = record { types = x.values.types; width = x.values.width; ranges = x.values.ranges };
-  moment = x.moment;
-}
+scan_means shape c scan x = search rules
 
 all_from : {A : Type 0} (P : A → Type 0) (xs : List A) → ((i : ℕ) (x : A) → slice_get xs i ≡ Some x → P x) → All P xs
 all_from P [] each i d within = absurd (omega (arith, within))
@@ -260,17 +199,7 @@ all_from P (y ∷ ys) each (suc i) d within = all_from P ys (λ j x at. each (su
 
 some_inner : (j : ℕ) (ms : List Member) → list_any (is_inner_of j) ms ≡ true → has_inner ms ≡ true
 some_inner j [] e = absurd (cc)
-some_inner j (m ∷ ms) e = by m.inner e (some_inner j ms)
-  where
-    by : (o : Option ℕ) → (option_map_or (λ (i : ℕ). i == j) o false || list_any (is_inner_of j) ms) ≡ true
-        → (list_any (is_inner_of j) ms ≡ true → has_inner ms ≡ true) → (is_some o || has_inner ms) ≡ true
-    by None e rest = rest e
-    by (Some i) e rest = refl
-
-both_true : (a b : Bool) → (a && b) ≡ true → (a ≡ true) × (b ≡ true)
-both_true true true e = (refl, refl)
-both_true true false e = absurd (cc)
-both_true false b e = absurd (cc)
+some_inner j (m ∷ ms) e = search (rules, some_inner j ms)
 
 -- a device that takes captures of device k is an averaging one over it, with a member
 pub record IsOver (k : ℕ) (kind : Kind) (st : Station) : Type 0 where
@@ -279,11 +208,7 @@ pub record IsOver (k : ℕ) (kind : Kind) (st : Station) : Type 0 where
   pub member : not (is_empty st.members) ≡ true
 
 over_is : (k : ℕ) (kind : Kind) (st : Station) → gathers k kind st ≡ true → IsOver k kind st
-over_is k Input st e = absurd (cc)
-over_is k Output st e = absurd (cc)
-over_is k (Average base window) st e =
-    let parts = both_true (base == k) (not (is_empty st.members)) e in
-    record { window = window; is = ap (λ (n : ℕ). Average n window) (same_number base k parts.0); member = parts.1 }
+over_is k kind st e = search rules
 
 module _ {X : Type 0} {V : X → Type 0} (drive : Plug X V → Driver) (triggers first : ℕ) (ds : List (AnyDevice X V))
     (averaged : IsAveraged triggers first (map any_front ds) (stations_by drive ds))
@@ -297,9 +222,7 @@ module _ {X : Type 0} {V : X → Type 0} (drive : Plug X V → Driver) (triggers
     shape_there i y e = ap (λ (o : Option DeviceHead). option_map_or (λ (h : DeviceHead). h.shape) o no_shape) (map_at any_front ds i y e)
 
     shape_means : (any_front x).shape ≡ shape_of_means (Some (any_front d).shape)
-    shape_means =
-        sym (shape_there j x there) ∙ (averaged.bases.bases j k over.window kind_is_over).shape
-        ∙ ap (λ (s : ShapeRecord). shape_of_means (Some s)) (shape_there k d at)
+    shape_means = search (rules, shape_there, kind_is_over)
 
     own_is : station_in (map (any_station drive) ds) j ≡ any_station drive x
     own_is = here_is (map (any_station drive) ds) j (any_station drive x) (map_at (any_station drive) ds j x there)
@@ -308,36 +231,20 @@ module _ {X : Type 0} {V : X → Type 0} (drive : Plug X V → Driver) (triggers
     base_is = here_is (map (any_station drive) ds) k (any_station drive d) (map_at (any_station drive) ds k d at)
 
     inner_there : list_any (is_inner_of j) (any_station drive d).members ≡ true
-    inner_there =
-        ap (λ (st : Station). list_any (is_inner_of j) st.members) (sym base_is) ∙ (averaged.inners j k over.window kind_is_over).inner
-        ∙ ap (λ (st : Station). not (is_empty st.members)) own_is ∙ over.member
+    inner_there = search (rules, base_is, kind_is_over, own_is)
 
     taken_scan : IsScanOf (any_front x).shape c scan
-    taken_scan =
-        subst (λ (s : ShapeRecord). IsScanOf s c scan) (sym shape_means)
-        (scan_means (any_front d).shape c scan (whole (some_inner j (any_station drive d).members inner_there)))
+    taken_scan = search (rules, shape_means, scan_means, any_front, some_inner, inner_there)
 
     fewer_there : is_last (any_station drive d).captures ≡ false → is_last (any_station drive x).captures ≡ false
     fewer_there last =
         let fewer : (any_station drive x).captures ≤ (any_station drive d).captures
-        = subst (λ (st : Station). st.captures ≤ (any_station drive d).captures) own_is
-        (subst (λ (st : Station). (station_in (map (any_station drive) ds) j).captures ≤ st.captures) base_is
-        (averaged.inners j k over.window kind_is_over).fewer) in
-        let most : (any_station drive d).captures ≤ 2 ^ 64 - 1 =
-        subst (λ (st : Station). st.captures ≤ 2 ^ 64 - 1) base_is (averaged.inners j k over.window kind_is_over).most in
+        = search (rules, own_is, base_is, kind_is_over) in
+        let most : (any_station drive d).captures ≤ 2 ^ 64 - 1 = search (rules, base_is, kind_is_over) in
         less (any_station drive x).captures (any_station drive d).captures fewer most last
       where
         less : (a b : ℕ) → a ≤ b → b ≤ 2 ^ 64 - 1 → is_last b ≡ false → is_last a ≡ false
-        less a b fewer most last = by (is_last a) refl
-          where
-            by : (t : Bool) → is_last a ≡ t → t ≡ false
-            by false e = refl
-            by true e = absurd (
-                let one : a ≡ 2 ^ 64 - 1 = same_number a (2 ^ 64 - 1) e in
-                let two : b ≡ 2 ^ 64 - 1 = omega (arith, fewer, most, one) in
-                let h : false ≡ true = sym last ∙ ap is_last two in
-                cc
-                )
+        less a b fewer most last = search rules
 
   pub taken_all : (any_front d).kind ≡ Input → (j : ℕ) (x : AnyDevice X V) → slice_get ds j ≡ Some x → (j ≡ k → ⊥)
       → gathers k (any_front x).kind (any_station drive x) ≡ true → IsScanOf (any_front x).shape c scan
@@ -347,11 +254,7 @@ module _ {X : Type 0} {V : X → Type 0} (drive : Plug X V → Driver) (triggers
   ready_all input last = all_from (IsReady drive k scan) (set ds k d') (λ j x there. by j x (after_set ds k j d' x there))
     where
       by : (j : ℕ) (x : AnyDevice X V) → ((j ≡ k) × (x ≡ d')) ⊎ ((j ≡ k → ⊥) × (slice_get ds j ≡ Some x)) → IsReady drive k scan x
-      by j x (inl p) = λ g. absurd (
-          let none : gathers k (any_front x).kind (any_station drive x) ≡ false
-          = ap (λ (kind : Kind). gathers k kind (any_station drive x)) (ap (λ (y : AnyDevice X V). (any_front y).kind) p.1 ∙ input) in
-          cc
-          )
+      by j x (inl p) = search rules
       by j x (inr p) = λ g. (
           let over = over_is k (any_front x).kind (any_station drive x) g in
           let taken = taken_scan j x p.1 over in
@@ -368,9 +271,7 @@ scan_there (x ∷ xs) (suc k) d d' at = scan_there xs k d d' at
 
 pub made_by : {X : Type 0} {V : X → Type 0} (drive : Plug X V → Driver) (d : AnyDevice X V) → (any_front d).kind ≡ Input
     → captures_by d ≡ (any_station drive d).captures
-made_by drive (any.Input d) input = refl
-made_by drive (any.Output x) input = absurd (cc)
-made_by drive (any.Average a) input = absurd (cc)
+made_by drive d input = search rules
 
 module _ {X : Type 0} {V : X → Type 0} (drive : Plug X V → Driver) (context : List ℕ) (triggers : List TriggerDesc) (ds ds' : List (AnyDevice X V)) (clock : ℤ)
     (first k : ℕ) (d d' : AnyDevice X V) (at : slice_get ds k ≡ Some d)
@@ -390,9 +291,7 @@ module _ {X : Type 0} {V : X → Type 0} (drive : Plug X V → Driver) (context 
 
   taken_whole : (x : IsCaptured (any_front d).kind o ended (any_front d).shape (any_station drive d))
       → IsTakenWhole (any_front d).shape (Some x.capture) (any_station drive d).members (full_scan_by d')
-  taken_whole x =
-      subst (λ (c : Option Capture). IsTakenWhole (any_front d).shape c (any_station drive d).members (full_scan_by d'))
-      (ap (λ (b : Bool). entry_capture (any_front d).kind o b (any_front d).shape (any_station drive d)) x.goes_on ∙ x.is) whole
+  taken_whole x = search rules
 
   -- the averaging devices can take a capture
   pub can_gather : (r : Option Became) → r ≡ entry_became (any_front d).kind o ended (any_station drive d) → OnCapture r (CanGather drive first k (set ds k d'))
@@ -409,16 +308,7 @@ module _ {X : Type 0} {V : X → Type 0} (drive : Plug X V → Driver) (context 
       }
     where
       same_side : (i : ℕ) → (i < first) ⊎ (first ≤ i)
-      same_side i = side i first
-        where
-          side : (i n : ℕ) → (i < n) ⊎ (n ≤ i)
-          side i zero = inr (omega arith)
-          side zero (suc n) = inl (omega arith)
-          side (suc i) (suc n) = two (side i n)
-            where
-              two : (i < n) ⊎ (n ≤ i) → (suc i < suc n) ⊎ (suc n ≤ suc i)
-              two (inl a) = inl (omega (arith, a))
-              two (inr a) = inr (omega (arith, a))
+      same_side i = search rules
 
       there : (xs : List (AnyDevice X V)) (i : ℕ) (y : AnyDevice X V) → slice_get xs i ≡ Some y → i < length xs
       there [] i y e = absurd (cc)
@@ -454,9 +344,7 @@ module _ {X : Type 0} {V : X → Type 0} (drive : Plug X V → Driver) (context 
       where
         by : (b : Bool) → ended ≡ b → machine_by (any_station drive) clock ts (set ds k d')
             ≡ unless_ended b machine_was (machine_after_entry (fronts_by any_front context triggers ds) o k machine_was)
-        by true e =
-            ap (λ (sts : List Station). (let m : Machine = record { clock = clock; triggers = ts; stations = sts } in m))
-            (map_same (any_station drive) ds k d d' at (made_at true e))
+        by true e = search (rules, map_same, made_at)
         by false e =
             told_alone drive context triggers ds clock ts k d d' at o (made_at false e)
             (none_captured (any_front d).kind o (any_front d).shape (any_station drive d) r
@@ -509,11 +397,7 @@ module _ {X : Type 0} {V : X → Type 0} (drive : Plug X V → Driver) (context 
   -- the room of the device itself
   pub room_after : (r : Option Became) → (members : List Member) → IsRoom r members (room_by d') → AfterEntry drive r k (set ds k d') ds'
       → IsRoom r members (option_map_or room_by (slice_get ds' k) [])
-  room_after (Some (Asked h)) members is after = tt
-  room_after (Some (Gave answer)) members is after =
-      subst (λ (room : List ℕ). IsRoom (Some (Gave answer)) members room)
-      (sym (ap (λ (xs : List (AnyDevice X V)). option_map_or room_by (slice_get xs k) []) after ∙ room_is room_by ds k d d' at)) is
-  room_after None members is after = tt
+  room_after r members is after = search (rules, room_by, room_is)
 
 -- ---- what holds afterwards
 
@@ -586,26 +470,10 @@ module _ {X : Type 0} {V : X → Type 0} (drive : Plug X V → Driver) (context 
 pub none_unplugged : (front : Front) (dev : ℕ) (m : Machine) (first : ℕ) → HasBases first front.devices → is_average (kind_at front dev) ≡ true
     → machine_after_unplugging front dev m ≡ m
 unfolding kind_at
-none_unplugged front dev m first bases average =
-    ap (λ (sts : List Station). (let x : Machine = record m { stations = sts } in x))
-    (kept_from (unplugs front dev) 0 m.stations (λ j st. ap (λ (b : Bool). cond b (with_site unplugged st) st) (stays j (kind_in front.devices j) refl)))
-  where
-    itself_not : (j : ℕ) → is_average (kind_in front.devices j) ≡ false → (dev == j) ≡ false
-    itself_not j plain = by (dev == j) refl
-      where
-        by : (b : Bool) → (dev == j) ≡ b → b ≡ false
-        by true e = absurd (let one = ap (λ (i : ℕ). is_average (kind_in front.devices i)) (same_number dev j e) in cc)
-        by false e = refl
-
-    stays : (j : ℕ) (kind : Kind) → kind_in front.devices j ≡ kind → is_unplugged_by kind dev j ≡ false
-    stays j Input is = itself_not j (ap is_average is)
-    stays j Output is = itself_not j (ap is_average is)
-    stays j (Average base window) is = itself_not base (ap is_average (bases.bases j base window is).input)
+none_unplugged front dev m first bases average = search (rules, kept_from, same_number)
 
 pub and_false : (a b : Bool) → b ≡ true → (a && not b) ≡ false
-and_false true b e = ap not e
-and_false false b e = refl
+and_false a b e = search rules
 
 pub plain_and : (a b : Bool) → b ≡ false → (a && not b) ≡ a
-plain_and true b e = ap not e
-plain_and false b e = refl
+plain_and a b e = search rules

@@ -1,8 +1,8 @@
 -- The handling of an entry in both views of a device, and the kinds of queue ends that there are.
-use Rattle.std.proofs.Common.{◌≡◌, ℕ, zero, suc, ◌+◌, ◌-◌, ◌^◌, ◌≤◌, Bool, true, false, List, [], ◌∷◌, ◌++◌, map, drop, length, Option, Some, None, slice_get, refl, sym, ap, ◌∙◌, arith, cond}
-use Rattle.std.specs.Prelude.{◌==◌, ◌&&◌, not, nat_lt, ℤ}
+use Rattle.std.proofs.Common.{◌≡◌, ℕ, zero, suc, ◌+◌, ◌-◌, ◌^◌, ◌≤◌, Bool, true, false, List, [], ◌∷◌, ◌++◌, map, drop, length, Some, slice_get, refl, sym, ap, ◌∙◌, arith, cond, rules}
+use Rattle.std.proofs.lemmas.Grind.{common_steps}
+use Rattle.std.specs.Prelude.{◌==◌, ℤ}
 use Rattle.std.specs.List.{AllZip}
-use Rattle.std.proofs.lemmas.Bool.Decides.{nat_tests}
 use Rattle.std.proofs.lemmas.List.{drop-append-le, length-drop}
 use Rattle.iio_layout.specs.Scan.{scan_of}
 use Rattle.iio_layout.specs.Shape.{ShapeRecord}
@@ -31,17 +31,12 @@ use Rattle.iio_derive.specs.Window.{no_window}
 use Rattle.iio_output.specs.Last.{first_last}
 use Rattle.iio_core.specs.Moves.{Capture, asked_once, station_after_entry, offered_to, handled_answer}
 use Rattle.iio_core.specs.Devices.{AreMet, IsAt, IsMet, left_after, member_with, members_met, queue_waited, queue_waits, station_met, station_of, station_with, writer_waited, writer_waits}
-use Rattle.iio_core.proofs.DeviceLaws.{at_changed, empty_map, masks_are}
+use Rattle.iio_core.proofs.DeviceLaws.{at_changed, masks_are}
 
 -- ---- handlings
 
-on_true : {A : Type 0} (b : Bool) (x y : A) → b ≡ true → cond b x y ≡ x
-on_true true x y e = refl
-on_true false x y e = absurd (cc)
-
 on_false : {A : Type 0} (b : Bool) (x y : A) → b ≡ false → cond b x y ≡ y
-on_false true x y e = absurd (cc)
-on_false false x y e = refl
+on_false b x y e = cc
 
 module _ {Q : Type 0} (taken lost size capacity : Q → ℕ) (offer_gives : Q → List ℕ → Offered → Q → Type 0) (waits : Q → List (List ℕ))
     (waited : Q → Q → List (List ℕ)) where
@@ -60,45 +55,12 @@ module _ {Q : Type 0} (taken lost size capacity : Q → ℕ) (offer_gives : Q �
   WereOffered shape c xs ys =
       AllZip (λ (a b : Membership Q). WasOffered taken lost size capacity offer_gives (scan_of shape a.mask.bits c.values c.moment) a b) xs ys
 
-  offered_by : (shape : ShapeRecord) (c : Capture) (a b : Membership Q) (answer : Offered) → b ≡ record a { tail = b.tail } → capacity b.tail ≡ capacity a.tail
-      → IsMet lost capacity waits waited (scan_of shape a.mask.bits c.values c.moment) answer a.tail b.tail
-      → offered_to shape c (member_with lost capacity (waited a.tail b.tail) a) ≡ member_with lost capacity (waits b.tail) b
-  offered_by shape c a b Taken same bounded is =
-      let room : nat_lt (length (waited a.tail b.tail)) (capacity a.tail) ≡ true = let h = is.0 in grind (arith, nat_tests) in
-      rw room (ap (λ (scans : List (List ℕ)).
-      (let x : Member =
-      record { number = a.number; mask = a.mask.bits; capacity = capacity a.tail; scans = scans; lost = lost a.tail; cyclic = false; inner = None } in x))
-      (sym is.2)
-      ∙ ap (λ (n : ℕ). (let x : Member =
-      record { number = a.number; mask = a.mask.bits; capacity = n; scans = waits b.tail; lost = lost a.tail; cyclic = false; inner = None } in x))
-      (sym bounded)
-      ∙ ap (λ (n : ℕ). (let x : Member =
-      record { number = a.number; mask = a.mask.bits; capacity = capacity b.tail; scans = waits b.tail; lost = n; cyclic = false; inner = None } in x))
-      (sym is.1)
-      ∙ ap (λ (m : Membership Q). member_with lost capacity (waits b.tail) m) (sym same))
-  offered_by shape c a b Lost same bounded is =
-      let full : nat_lt (length (waited a.tail b.tail)) (capacity a.tail) ≡ false = let h = is.0 in grind (arith, nat_tests) in
-      rw full (ap (λ (scans : List (List ℕ)).
-      (let x : Member =
-      record { number = a.number; mask = a.mask.bits; capacity = capacity a.tail; scans = scans; lost = lost a.tail + 1; cyclic = false; inner = None } in x))
-      (sym is.2)
-      ∙ ap (λ (n : ℕ). (let x : Member =
-      record { number = a.number; mask = a.mask.bits; capacity = n; scans = waits b.tail; lost = lost a.tail + 1; cyclic = false; inner = None } in x))
-      (sym bounded)
-      ∙ ap (λ (n : ℕ). (let x : Member =
-      record { number = a.number; mask = a.mask.bits; capacity = capacity b.tail; scans = waits b.tail; lost = n; cyclic = false; inner = None } in x))
-      (sym is.1)
-      ∙ ap (λ (m : Membership Q). member_with lost capacity (waits b.tail) m) (sym same))
-
   all_offered : (shape : ShapeRecord) (c : Capture) (xs ys : List (Membership Q)) → WereOffered shape c xs ys → OffersAreMet xs ys
       → map (offered_to shape c) (met xs ys) ≡ map (λ (m : Membership Q). member_with lost capacity (waits m.tail) m) ys
   all_offered shape c [] [] z h = refl
   all_offered shape c [] (y ∷ ys) z h = absurd z
   all_offered shape c (x ∷ xs) [] z h = absurd z
-  all_offered shape c (x ∷ xs) (y ∷ ys) z h =
-      ap (λ (m : Member). m ∷ map (offered_to shape c) (met xs ys))
-      (offered_by shape c x y z.0.answer z.0.same z.0.bounded (h.0 (scan_of shape x.mask.bits c.values c.moment) z.0.answer z.0.offered))
-      ∙ ap (λ (ms : List Member). member_with lost capacity (waits y.tail) y ∷ ms) (all_offered shape c xs ys z.1 h.1)
+  all_offered shape c (x ∷ xs) (y ∷ ys) z h = search (rules, all_offered shape c xs ys z.1 h.1)
 
   met_masks : (shape : ShapeRecord) (c : Capture) (xs ys : List (Membership Q)) → WereOffered shape c xs ys → plain_masks (met xs ys) ≡ masks_of xs
   met_masks shape c [] [] z = refl
@@ -113,48 +75,26 @@ module _ {Q : Type 0} (taken lost size capacity : Q → ℕ) (offer_gives : Q �
   met_length shape c (x ∷ xs) (y ∷ ys) z = ap (λ (n : ℕ). suc n) (met_length shape c xs ys z.1)
 
   met_empty : (shape : ShapeRecord) (c : Capture) (xs ys : List (Membership Q)) → WereOffered shape c xs ys → is_empty (met xs ys) ≡ is_empty xs
-  met_empty shape c [] [] z = refl
-  met_empty shape c [] (y ∷ ys) z = absurd z
-  met_empty shape c (x ∷ xs) [] z = absurd z
-  met_empty shape c (x ∷ xs) (y ∷ ys) z = refl
+  met_empty shape c xs ys z = search rules
 
   -- an entry of the device is due exactly if it is current
   current_is : (e : Handed) (d : DeviceView Q) (members : List Member) → e.dev ≡ d.number → (d.standing.captures == 2 ^ 64 - 1) ≡ false
       → is_empty members ≡ is_empty d.standing.members
       → is_current e.attachment d.site.attachment members d.site.plugged ≡ is_due e d
-  current_is e d members own fewer empty =
-      let same : (e.dev == d.number) ≡ true = grind (arith, nat_tests) in
-      rw (same, fewer, empty) (sym (both (e.attachment == d.site.attachment && not (is_empty d.standing.members) && d.site.plugged)))
-    where
-      both : (b : Bool) → (b && true) ≡ b
-      both true = refl
-      both false = refl
+  current_is e d members own fewer empty = search rules
 
   asked_is : (t : ℤ) (d : DeviceView Q) (members : List Member) → d.standing.active ≡ active_for d.standing.shape (masks_of d.standing.members)
       → plain_masks members ≡ masks_of d.standing.members
       → captured t (active_for d.standing.shape (plain_masks members)) d.site ≡ captured t d.standing.active d.site
-  asked_is t d members ruled masks =
-      ap (λ (active : Option ℕ). captured t active d.site) (ap (λ (ms : List ℕ). active_for d.standing.shape ms) masks ∙ sym ruled)
+  asked_is t d members ruled masks = cc
 
   pub handled_is : (e : Handed) (r : Handled) (d d' : DeviceView Q) → Handles taken lost size capacity offer_gives e r d d' → e.dev ≡ d.number
       → (d.standing.captures == 2 ^ 64 - 1) ≡ false
       → d.standing.active ≡ active_for d.standing.shape (masks_of d.standing.members) → AreMet lost capacity waits waited offer_gives r d d'
       → (r ≡ handled_answer e (station_met lost capacity waits waited r d d'))
       × (station_after_entry Input d.standing.shape (Some e) (station_met lost capacity waits waited r d d') ≡ after d')
-  handled_is e Idle d d' h own fewer ruled met_is =
-      let idle : is_current e.attachment d.site.attachment (after d).members d.site.plugged ≡ false
-      = current_is e d (after d).members own fewer (empty_map (λ (m : Membership Q). member_with lost capacity (waits m.tail) m) d.standing.members) ∙ h.0 in
-      rw idle (refl, ap after (sym h.1))
-  handled_is e Fault d d' h own fewer ruled met_is =
-      let due : is_current e.attachment d.site.attachment (after d).members d.site.plugged ≡ true
-      = current_is e d (after d).members own fewer (empty_map (λ (m : Membership Q). member_with lost capacity (waits m.tail) m) d.standing.members) ∙ h.0 in
-      rw due (
-        sym (on_true (ask_fails d.site.driver) Fault (Captured (length (after d).members)) h.1),
-        on_true (ask_fails d.site.driver) (asked_once d.standing.shape e.t (after d)) _ h.1
-            ∙ ap (λ (site : Site ℕ). (let st : Station = record (after d) { site = site } in st))
-            (asked_is e.t d (after d).members ruled (masks_are lost capacity waits d.standing.members))
-            ∙ ap after (sym h.2),
-      )
+  handled_is e Idle d d' h own fewer ruled met_is = search rules
+  handled_is e Fault d d' h own fewer ruled met_is = search (rules, masks_are)
   handled_is e (Captured n) d d' h own fewer ruled met_is =
       let c : Capture = record { moment = e.t; values = values_of d.site.driver d.standing.shape e.t } in
       let zip : WereOffered d.standing.shape c d.standing.members d'.standing.members = h.2.2 in
@@ -172,8 +112,7 @@ module _ {Q : Type 0} (taken lost size capacity : Q → ℕ) (offer_gives : Q �
               captures = d.standing.captures + 1;
               totals = d.totals;
               members = map (offered_to d.standing.shape c) ms;
-              site =
-                  site;
+              site = site;
               last = first_last d.standing.shape;
               window = no_window;
             } in st))
@@ -222,8 +161,7 @@ module _ {Q : Type 0} (taken lost size capacity : Q → ℕ) (offer_gives : Q �
 
 pub queues_are_met : (old new : Queue) (scan : List ℕ) (answer : Offered) → QueueOffers old scan answer new
     → IsMet (λ (q : Queue). q.lost) (λ q. q.capacity) queue_waits queue_waited scan answer old new
-queues_are_met old new scan Taken o = (o.0, ap (λ (q : Queue). q.lost) o.1, ap (λ (q : Queue). q.scans) o.1)
-queues_are_met old new scan Lost o = ((let h = o.0 in omega arith), ap (λ (q : Queue). q.lost) o.1, ap (λ (q : Queue). q.scans) o.1)
+queues_are_met old new scan answer o = search rules
 
 module _ (scan_for : Membership Queue → List ℕ) where
   abbrev Were : List (Membership Queue) → List (Membership Queue) → Type 0
@@ -238,11 +176,7 @@ module _ (scan_for : Membership Queue → List ℕ) where
   queues_stood [] [] z = (refl, tt)
   queues_stood [] (y ∷ ys) z = absurd z
   queues_stood (x ∷ xs) [] z = absurd z
-  queues_stood (x ∷ xs) (y ∷ ys) z =
-      let rest = queues_stood xs ys z.1 in (
-        ap (λ (ms : List Member). member_with (λ (q : Queue). q.lost) (λ q. q.capacity) x.tail.scans x ∷ ms) rest.0,
-        ((λ scan answer o. queues_are_met x.tail y.tail scan answer o), rest.1),
-      )
+  queues_stood (x ∷ xs) (y ∷ ys) z = search (rules, queues_stood xs ys z.1)
 
 pub queues_stand : (e : Handed) (r : Handled) (d d' : DeviceView Queue)
     → Handles (λ (q : Queue). q.taken) (λ q. q.lost) (λ q. q.size) (λ q. q.capacity) QueueOffers e r d d'
@@ -295,8 +229,7 @@ pub rings_are_met : (old new : WriterEnd) (scan : List ℕ) (answer : Offered) �
     → new.knows.seen ≤ length (accepted old.knows.offers)
     → IsMet (λ (w : WriterEnd). lost_in w.knows.offers) (λ w. w.capacity) writer_waits writer_waited scan answer old new
 rings_are_met old new scan Taken o few =
-    let few' : new.knows.seen ≤ length (map (λ (s : Sent). s.scan) (accepted old.knows.offers)) =
-    rw (length_of_map (λ (s : Sent). s.scan) (accepted old.knows.offers)) few in
+    let few' : new.knows.seen ≤ length (map (λ (s : Sent). s.scan) (accepted old.knows.offers)) = grind (arith, common_steps) in
     let offers : new.knows.offers ≡ old.knows.offers ++ Accepted scan ∷ [] = ap (λ (w : Writing). w.offers) o.1.1 in (
       (let h = o.1.0 in let n = left_length new.knows.seen old in omega arith),
       ap (λ (xs : List Offer). lost_in xs) offers ∙ lost_same old.knows.offers scan,
@@ -306,10 +239,4 @@ rings_are_met old new scan Taken o few =
           ∙ drop-append-le new.knows.seen (map (λ (s : Sent). s.scan) (accepted old.knows.offers)) (scan ∷ []) few'
           ∙ ap (λ (xs : List (List ℕ)). xs ++ scan ∷ []) (sym (drop_map (λ (s : Sent). s.scan) new.knows.seen (accepted old.knows.offers))),
     )
-rings_are_met old new scan Lost o few =
-    let offers : new.knows.offers ≡ old.knows.offers ++ Refused ∷ [] = ap (λ (w : Writing). w.offers) o.1.1 in (
-      (let h = o.1.0 in let n = left_length new.knows.seen old in omega arith),
-      ap (λ (xs : List Offer). lost_in xs) offers ∙ lost_more old.knows.offers,
-      ap (λ (xs : List Offer). map (λ (s : Sent). s.scan) (drop new.knows.seen (accepted xs))) offers
-          ∙ ap (λ (xs : List Sent). map (λ (s : Sent). s.scan) (drop new.knows.seen xs)) (accepted_same 0 old.knows.offers),
-    )
+rings_are_met old new scan Lost o few = search (rules, left_length, lost_more, accepted_same)

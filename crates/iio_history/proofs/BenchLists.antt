@@ -1,5 +1,5 @@
 -- Lists of which each element has a property; names and their places.
-use Rattle.std.proofs.Common.{◌≡◌, ℕ, zero, suc, ◌+◌, ◌<◌, ◌≤◌, ◌==◌, ◌||◌, Bool, true, false, List, [], ◌∷◌, ◌++◌, map, Option, None, Some, slice_get, cond, refl, sym, ap, ◌∙◌, subst, arith}
+use Rattle.std.proofs.Common.{◌≡◌, ℕ, zero, suc, ◌+◌, ◌==◌, Bool, true, List, [], ◌∷◌, ◌++◌, map, Option, None, Some, slice_get, refl, subst, rules}
 use Rattle.std.proofs.lemmas.Slice.Eq.{bytes_eq-Decides}
 use Rattle.std.specs.Str.{bytes_eq}
 use Rattle.iio_base.specs.Refusals.{first_refusal}
@@ -37,45 +37,24 @@ pub name_itself : (a : List ℕ) → bytes_eq a a ≡ true
 name_itself a = (bytes_eq-Decides a a).1 refl
 
 pub tests_same : (a b : Bool) → (a ≡ true → b ≡ true) → (b ≡ true → a ≡ true) → a ≡ b
-tests_same true b f g = sym (f refl)
-tests_same false true f g = g refl
-tests_same false false f g = refl
+tests_same a b f g = search rules
 
 -- a name that is there has a place of its own
 pub place_tells : (ns : List (List ℕ)) (a b : List ℕ) → is_in ns b ≡ true → place_in ns a ≡ place_in ns b → a ≡ b
 place_tells [] a b there is = cc
-place_tells (n ∷ ns) a b there is = by (bytes_eq n a) (bytes_eq n b) refl refl there is (place_tells ns a b)
-  where
-    by : (x y : Bool) → bytes_eq n a ≡ x → bytes_eq n b ≡ y → (y || is_in ns b) ≡ true → cond x 0 (suc (place_in ns a)) ≡ cond y 0 (suc (place_in ns b))
-        → (is_in ns b ≡ true → place_in ns a ≡ place_in ns b → a ≡ b) → a ≡ b
-    by true true p q there is rest = sym (name_same n a p) ∙ name_same n b q
-    by true false p q there is rest = absurd (omega arith)
-    by false true p q there is rest = absurd (omega arith)
-    by false false p q there is rest = rest there (omega arith)
+place_tells (n ∷ ns) a b there is = search (rules, is_in, name_same, place_tells ns a b)
 
 pub place_same : (ns : List (List ℕ)) (a b : List ℕ) → is_in ns b ≡ true → (place_in ns a == place_in ns b) ≡ bytes_eq a b
-place_same ns a b there =
-    tests_same (place_in ns a == place_in ns b) (bytes_eq a b)
-    (λ h. ap (λ (n : List ℕ). bytes_eq a n) (sym (place_tells ns a b there (same_number (place_in ns a) (place_in ns b) h))) ∙ name_itself a)
-    (λ h. ap (λ (n : List ℕ). place_in ns a == place_in ns n) (sym (name_same a b h)) ∙ itself (place_in ns a))
+place_same ns a b there = search (rules, tests_same, place_tells, same_number, name_itself, name_same, itself)
 
 -- a name that is there keeps its place if others come after it
 pub place_stays : (ns more : List (List ℕ)) (a : List ℕ) → is_in ns a ≡ true → place_in (ns ++ more) a ≡ place_in ns a
 place_stays [] more a there = cc
-place_stays (n ∷ ns) more a there = by (bytes_eq n a) there (place_stays ns more a)
-  where
-    by : (x : Bool) → (x || is_in ns a) ≡ true → (is_in ns a ≡ true → place_in (ns ++ more) a ≡ place_in ns a)
-        → cond x 0 (suc (place_in (ns ++ more) a)) ≡ cond x 0 (suc (place_in ns a))
-    by true there rest = refl
-    by false there rest = ap (λ (n : ℕ). suc n) (rest there)
+place_stays (n ∷ ns) more a there = search (rules, is_in, place_stays ns more a)
 
 pub still_in : (ns more : List (List ℕ)) (a : List ℕ) → is_in ns a ≡ true → is_in (ns ++ more) a ≡ true
 still_in [] more a there = cc
-still_in (n ∷ ns) more a there = by (bytes_eq n a) there (still_in ns more a)
-  where
-    by : (x : Bool) → (x || is_in ns a) ≡ true → (is_in ns a ≡ true → is_in (ns ++ more) a ≡ true) → (x || is_in (ns ++ more) a) ≡ true
-    by true there rest = refl
-    by false there rest = rest there
+still_in (n ∷ ns) more a there = search (rules, is_in, still_in ns more a)
 
 -- ---- refusals
 
@@ -86,9 +65,4 @@ first_of_two (Some e) later = Some e
 
 pub first_appended : (xs bs : List (Bool × Errno)) → first_refusal (xs ++ bs) ≡ first_of_two (first_refusal xs) (first_refusal bs)
 first_appended [] bs = refl
-first_appended (a ∷ xs) bs = by a.0 (first_appended xs bs)
-  where
-    by : (b : Bool) → first_refusal (xs ++ bs) ≡ first_of_two (first_refusal xs) (first_refusal bs)
-        → cond b (Some a.1) (first_refusal (xs ++ bs)) ≡ first_of_two (cond b (Some a.1) (first_refusal xs)) (first_refusal bs)
-    by true h = refl
-    by false h = h
+first_appended (a ∷ xs) bs = search (rules, first_appended xs bs)

@@ -1,8 +1,9 @@
 -- REMASK.
-use Rattle.std.proofs.Common.{◌≡◌, ℕ, ◌*◌, ◌==◌, not, nat_lt, Bool, true, false, List, [], ◌∷◌, ◌++◌, map, length, Option, Some, None, Result, Ok, Err, slice_get, slice_set, is_none, is_some, option_map, cond, refl, sym, ap, ◌∙◌, subst}
+use Rattle.std.proofs.Common.{◌≡◌, ℕ, ◌*◌, ◌==◌, not, nat_lt, Bool, true, false, List, [], ◌∷◌, ◌++◌, map, length, Option, Some, None, Result, Ok, Err, slice_get, slice_set, is_none, is_some, option_map, cond, refl, sym, ap, ◌∙◌, subst, arith, rules}
+use Rattle.std.proofs.lemmas.Grind.{common_steps}
 use Rattle.std.specs.Prelude.{unwrap_or}
 use Rattle.std.specs.Option.{ok_or}
-use Rattle.iio_base.specs.Refusals.{ensure, ◌>>=◌, first_refusal, unless_refused}
+use Rattle.iio_base.specs.Refusals.{◌>>=◌, first_refusal, unless_refused}
 use Rattle.iio_text.specs.declared.errors.Errno.{Errno}
 use Rattle.iio_text.specs.declared.errors.Errno.TheVariants.{EBADF, EINVAL, ENODEV, ENOSYS}
 use Rattle.iio_mask.specs.Text.{mask_of}
@@ -14,7 +15,6 @@ use Rattle.iio_device.specs.declared.totals.Totals.{Totals}
 use Rattle.iio_device.specs.Active.{is_without_union}
 use Rattle.iiod_grammar.specs.Command.{Remask}
 use Rattle.iiod_grammar.specs.Stream.{Item, Said}
-use Rattle.iiod_reply.specs.Reply.{Reply, Refusal}
 use Rattle.iio_kfifo.specs.declared.limits.TheConstants.{MAX_BYTES}
 use Rattle.iiod_commands.specs.Acts.{Acted, act, refused, remask_at, remask_place, remask_seat, remask_wanted, remasked_seat as session_remasked, where_known, zero_reply}
 use Rattle.iio_desc.specs.Kind.{is_input}
@@ -25,22 +25,22 @@ use Rattle.iio_core.specs.Machine.{Member as MachineMember, Station as MachineSt
 use Rattle.iio_core.specs.Opening.{mask_refusals}
 use Rattle.iio_history.specs.Who.{Who, Conn, same}
 use Rattle.iio_history.specs.Event.{Heard}
-use Rattle.iio_history.specs.Registry.{Setup, Member, Device, is_named, mask_of_member, member_of, without_members}
+use Rattle.iio_history.specs.Registry.{Setup, Member, Device, mask_of_member, member_of, without_members}
 use Rattle.iio_history.specs.Opening.{Remasked, remask_answer, remasked}
-use Rattle.iio_history.specs.Act.{Act, Nothing, Remasking, accepted, only as only_act}
+use Rattle.iio_history.specs.Act.{Act, Remasking, accepted, only as only_act}
 use Rattle.iio_history.specs.Queue.{new_queue}
 use Rattle.iio_history.specs.Told.{Seat, Station, Told, device_of, member_of_seat, registry_of}
-use Rattle.iio_history.specs.Machine.{remasked_seat, station_after, station_by, step, without_seats}
-use Rattle.iio_history.specs.Reply.{KnownDevice, replied, reply, seat_of}
+use Rattle.iio_history.specs.Machine.{remasked_seat, step}
+use Rattle.iio_history.specs.Reply.{replied, reply, seat_of}
 use Rattle.iio_history.specs.Bench.{IsAct, IsBench, IsClientOf, seat_state_by, bench_by, front_of, machine_of, names_of, numbered, place_in, seat_at, seat_in}
 use Rattle.iio_history.proofs.WhoLaws.{same_is}
-use Rattle.iio_core.proofs.PlaceLists.{get_first, itself, same_number}
+use Rattle.iio_core.proofs.PlaceLists.{get_first, same_number}
 use Rattle.iio_history.proofs.BenchLists.{first_appended, first_of_two}
 use Rattle.iio_history.proofs.BenchSeats.{TellSame, id_of_seat, left_same, lost_same, masks_same, member_same, scans_same}
-use Rattle.iio_history.proofs.BenchSteps.{bench_at, named_by, names_kept, shape_same}
+use Rattle.iio_history.proofs.BenchSteps.{bench_at, names_kept, shape_same}
 use Rattle.iio_history.proofs.BenchClients.{counts_kept, HolderStays, holds_kept, keeps_spared, seat_kept, users_after}
 use Rattle.iio_history.proofs.BenchPlaces.{is_at, place_none, put_apart, put_at}
-use Rattle.iio_history.proofs.BenchPlain.{Acts, Names, at_named, keeps_else, known_is, state_changed, unchanged, unknown_is, where_kind, where_plugged}
+use Rattle.iio_history.proofs.BenchPlain.{Acts, Names, at_named, keeps_else, state_changed, unchanged, where_kind, where_plugged}
 use Rattle.iio_history.proofs.BenchBuffers.{own_seat, station_is, tells}
 use Rattle.iio_history.proofs.BenchKept.{left_members}
 
@@ -49,21 +49,11 @@ use Rattle.iio_history.proofs.BenchKept.{left_members}
 -- the membership of a seat that is found, or none
 pub member_found : (who : Who) (xs : List Seat) → member_of who (map member_of_seat xs) ≡ option_map member_of_seat (seat_of who xs)
 member_found who [] = refl
-member_found who (x ∷ xs) = by (same who x.member.who) (member_found who xs)
-  where
-    by : (b : Bool) → member_of who (map member_of_seat xs) ≡ option_map member_of_seat (seat_of who xs)
-        → cond b (Some x.member) (member_of who (map member_of_seat xs)) ≡ option_map member_of_seat (cond b (Some x) (seat_of who xs))
-    by true rest = refl
-    by false rest = rest
+member_found who (x ∷ xs) = search (rules, same, member_found who xs)
 
 seat_name : (who : Who) (xs : List Seat) (y : Seat) → seat_of who xs ≡ Some y → same who y.member.who ≡ true
 seat_name who [] y is = cc
-seat_name who (x ∷ xs) y is = by (same who x.member.who) refl is (seat_name who xs y)
-  where
-    by : (b : Bool) → same who x.member.who ≡ b → cond b (Some x) (seat_of who xs) ≡ Some y → (seat_of who xs ≡ Some y → same who y.member.who ≡ true)
-        → same who y.member.who ≡ true
-    by true own h rest = let one : x ≡ y = cc in ap (λ (z : Seat). same who z.member.who) (sym one) ∙ own
-    by false other h rest = rest h
+seat_name who (x ∷ xs) y is = search (rules, same, seat_name who xs y)
 
 -- a seat under another mask
 abbrev anew : ℕ → Seat → Seat
@@ -73,46 +63,21 @@ anew mask x =
 seat_remasked : (who : Who) (mask : ℕ) (xs : List Seat) (y : Seat) → seat_of who xs ≡ Some y
     → seat_of who (map (remasked_seat who mask) xs) ≡ Some (anew mask y)
 seat_remasked who mask [] y is = cc
-seat_remasked who mask (x ∷ xs) y is = by (same who x.member.who) refl is (seat_remasked who mask xs y)
-  where
-    by : (b : Bool) → same who x.member.who ≡ b → cond b (Some x) (seat_of who xs) ≡ Some y
-        → (seat_of who xs ≡ Some y → seat_of who (map (remasked_seat who mask) xs) ≡ Some (anew mask y))
-        → cond (same who (cond b (anew mask x) x).member.who) (Some (cond b (anew mask x) x)) (seat_of who (map (remasked_seat who mask) xs))
-        ≡ Some (anew mask y)
-    by true own h rest =
-        let one : x ≡ y = cc in
-        ap (λ (b : Bool). cond b (Some (anew mask x)) (seat_of who (map (remasked_seat who mask) xs))) own ∙ ap (λ (z : Seat). Some (anew mask z)) one
-    by false other h rest = ap (λ (b : Bool). cond b (Some x) (seat_of who (map (remasked_seat who mask) xs))) other ∙ rest h
+seat_remasked who mask (x ∷ xs) y is = search (rules, same, seat_remasked who mask xs y)
 
 -- the members of a session's machine
 members_remasked : (who : Who) (mask : ℕ) (y : Seat) (xs : List Seat) → TellSame who y xs
     → map numbered (map (remasked_seat who mask) xs) ≡ map (with_mask y.number mask y.member.capacity) (map numbered xs)
 members_remasked who mask y [] tell = refl
-members_remasked who mask y (x ∷ xs) tell =
-    ap (λ (m : MachineMember). m ∷ map numbered (map (remasked_seat who mask) xs))
-    (by (same who x.member.who) tell.1 ∙ ap (λ (b : Bool). cond b (anew_member y.member.capacity) (numbered x)) tell.0)
-    ∙ ap (λ (ms : List MachineMember). with_mask y.number mask y.member.capacity (numbered x) ∷ ms) (members_remasked who mask y xs tell.2)
-  where
-    anew_member : ℕ → MachineMember
-    anew_member capacity = record (numbered x) { mask = mask; capacity = capacity; scans = []; lost = 0 }
-
-    by : (b : Bool) → (b ≡ true → x ≡ y) → numbered (cond b (anew mask x) x) ≡ cond b (anew_member y.member.capacity) (numbered x)
-    by true one = ap (λ (z : Seat). anew_member z.member.capacity) (one refl)
-    by false one = refl
+members_remasked who mask y (x ∷ xs) tell = search (rules, numbered, same, members_remasked who mask y xs tell.2)
 
 no_mask : (o : Option ℕ) → not (is_some o) ≡ is_none o
-no_mask None = refl
-no_mask (Some n) = refl
+no_mask o = cc
 
 -- ---- what a REMASK means
 
 abbrev remasking : Result Remasked Errno → Act
 remasking r = accepted (λ x. Remasking x.member x.mask) r
-
-abbrev answered : List ℕ → List ℕ → KnownDevice → Result Reply Errno
-answered name text x = do
-  remask ← remask_answer (device_of x.station) (Conn name) text
-  Ok zero_reply
 
 -- the answer of a plugged device
 abbrev answer_by : Device → List ℕ → Option Member → Result Remasked Errno
@@ -123,54 +88,32 @@ module _ (s : Setup) (m : Told) (name : List ℕ) (client : ClientRecord) (devic
   item = Said (Ok (Remask device text))
 
   names : Names s m name (Said (Ok (Remask device text))) device
-  names = record {
-    elsewhere = λ i x other. ap (λ (b : Bool). only_act b (remasking (remask_answer x (Conn name) text))) other;
-    unknown = λ none. ap (λ (r : Result KnownDevice Errno). replied (r >>= answered name text)) (sym (unknown_is s m device none));
-    uncounted = λ none u. refl;
-  }
+  names = search rules
 
   module _ (k : ℕ) (st : Station) (bench : IsBench s m) (d : IsClientOf m name client) (found : find_device s.desc device ≡ Some k)
       (at : slice_get m.stations k ≡ Some st) where
     acts : (r : Result Remasked Errno) → remask_answer (device_of st) (Conn name) text ≡ r
         → Acts s m name (Said (Ok (Remask device text))) device k st (remasking r)
-    acts r is = record {
-      names = names;
-      found = found;
-      at = at;
-      is = ap (λ (b : Bool). only_act b (remasking (remask_answer (device_of st) (Conn name) text))) (named_by s device k k found ∙ itself k) ∙ ap remasking is;
-    }
+    acts r is = grind (arith, common_steps)
 
     reply_is : (r : Result Remasked Errno) → remask_answer (device_of st) (Conn name) text ≡ r
         → replied (r >>= (λ remask. Ok zero_reply)) ≡ reply s m name (Said (Ok (Remask device text)))
-    reply_is r is =
-        sym (ap (λ (x : Result KnownDevice Errno). replied (x >>= answered name text)) (known_is s m device k st found at)
-        ∙ ap (λ (x : Result Remasked Errno). replied (x >>= (λ remask. Ok zero_reply))) is)
+    reply_is r is = cc
 
     -- a refused REMASK
     is_refused : (e : Errno) → remask_answer (device_of st) (Conn name) text ≡ Err e
         → IsAct s m name (Said (Ok (Remask device text))) (refused e (machine_of m) client)
-    is_refused e is =
-        unchanged s m name (Said (Ok (Remask device text))) device k st Nothing (acts (Err e) is) client (Refusal e) d (reply_is (Err e) is) refl
-        (keeps_spared (Conn name) k Nothing st tt) (λ u. refl)
+    is_refused e is = search (rules, unchanged, acts, reply_is, keeps_spared)
 
     plugged_answer : is_input st.kind ≡ true → st.site.plugged ≡ true → (o : Option Seat) → seat_of (Conn name) st.seats ≡ o
         → remask_answer (device_of st) (Conn name) text ≡ answer_by (device_of st) text (option_map member_of_seat o)
-    plugged_answer input plugged o is =
-        ap (λ (b : Bool). ensure b ENODEV >>=
-        (λ plugged. ensure (is_input st.kind) ENOSYS >>= (λ input. answer_by (device_of st) text (member_of (Conn name) (device_of st).members)))) plugged
-        ∙ ap (λ (b : Bool). ensure b ENOSYS >>= (λ input. answer_by (device_of st) text (member_of (Conn name) (device_of st).members))) input
-        ∙ ap (answer_by (device_of st) text) (member_found (Conn name) st.seats ∙ ap (option_map member_of_seat) is)
+    plugged_answer input plugged o is = search (rules, member_found)
 
     gone_answer : st.site.plugged ≡ false → remask_answer (device_of st) (Conn name) text ≡ Err ENODEV
-    gone_answer gone =
-        ap (λ (b : Bool). ensure b ENODEV >>=
-        (λ plugged. ensure (is_input st.kind) ENOSYS >>= (λ input. answer_by (device_of st) text (member_of (Conn name) (device_of st).members)))) gone
+    gone_answer gone = cc
 
     barred_answer : is_input st.kind ≡ false → st.site.plugged ≡ true → remask_answer (device_of st) (Conn name) text ≡ Err ENOSYS
-    barred_answer other plugged =
-        ap (λ (b : Bool). ensure b ENODEV >>=
-        (λ plugged. ensure (is_input st.kind) ENOSYS >>= (λ input. answer_by (device_of st) text (member_of (Conn name) (device_of st).members)))) plugged
-        ∙ ap (λ (b : Bool). ensure b ENOSYS >>= (λ input. answer_by (device_of st) text (member_of (Conn name) (device_of st).members))) other
+    barred_answer other plugged = cc
 
     -- ---- at a seat
 
@@ -189,10 +132,7 @@ module _ (s : Setup) (m : Told) (name : List ℕ) (client : ClientRecord) (devic
 
       -- the masks of the others, in both views
       others_same : masks_of (without y.number (map numbered st.seats)) ≡ others
-      others_same =
-          ap masks_of (sym (left_same (Conn name) y st.seats tell)) ∙ masks_same (without_seats (Conn name ∷ []) st.seats)
-          ∙ ap (map mask_of_member) (left_members (Conn name ∷ []) st.seats)
-          ∙ ap (λ (w : Who). map mask_of_member (without_members (w ∷ []) (map member_of_seat st.seats))) own
+      others_same = search (rules, left_same, tell, masks_same, left_members, own)
 
       abbrev own_list : List (Bool × Errno)
       own_list =
@@ -256,18 +196,10 @@ module _ (s : Setup) (m : Told) (name : List ℕ) (client : ClientRecord) (devic
         new_seat_state n = seat_state_remasked mask n (seat_state_by k y)
 
         remasked_here : seat_in k (Conn name) (slice_get (step s m (Heard name item)).stations k) ≡ Some (new_seat_state (length y.queue.scans))
-        remasked_here =
-            ap (seat_in k (Conn name))
-            (get_first (station_after s (registry_of m) (Heard name item)) m.stations k
-            ∙ ap (option_map (station_after s (registry_of m) (Heard name item) k)) at)
-            ∙ ap (λ (a : Act). seat_in k (Conn name) (Some (station_by a st))) (acts (Ok made) accepted_is).is
-            ∙ ap (λ (w : Who). option_map (seat_state_by k) (seat_of (Conn name) (map (remasked_seat w mask) st.seats))) (sym own)
-            ∙ ap (option_map (seat_state_by k)) (seat_remasked (Conn name) mask st.seats y is)
+        remasked_here = search (rules, get_first, acts, own, seat_remasked)
 
         holder : (j : ℕ) (x : Station) (b : Bool) (r : Result Remasked Errno) → HolderStays (Conn name) (only_act b (remasking r)) x
-        holder j x false r h = h
-        holder j x true (Err e) h = h
-        holder j x true (Ok n) h = h
+        holder j x b r = search rules
 
         client_is : (i : ℕ) → slice_get client.seats i ≡ Some (seat_state_by k y)
             → IsClientOf (step s m (Heard name (Said (Ok (Remask device text))))) name
@@ -279,20 +211,14 @@ module _ (s : Setup) (m : Told) (name : List ℕ) (client : ClientRecord) (devic
           buffers =
               λ j. d.buffers j ∙ sym (counts_kept s m (Heard name item) name (users_after s (registry_of m) (Heard name item) name m.lines [] refl)
               (λ u is. refl) j);
-          holdings =
-              λ j held. d.holdings j (holds_kept s m (Heard name item) (Conn name) j
-              (λ x at. holder j x (is_named s device j) (remask_answer (device_of x) (Conn name) text)) held);
+          holdings = search (rules, holds_kept, holder);
         }
           where
             by : (j : ℕ) (b : Bool) → (k == j) ≡ b
                 → cond b (Some (new_seat_state (length y.queue.scans))) (seat_at j client.seats)
                 ≡ seat_in j (Conn name) (slice_get (step s m (Heard name item)).stations j)
-            by j true here =
-                sym (ap (λ (i : ℕ). seat_in i (Conn name) (slice_get (step s m (Heard name item)).stations i)) (sym (same_number k j here)) ∙ remasked_here)
-            by j false other =
-                d.seats j ∙ sym (seat_kept s m (Heard name item) (Conn name) j
-                (λ x is_. (keeps_else s m name (Said (Ok (Remask device text))) device k st (Remasking y.member mask) (acts (Ok made) accepted_is) j other x
-                is_).seat))
+            by j true here = search (rules, step, same_number, remasked_here)
+            by j false other = search (rules, seat_kept, keeps_else, acts)
 
       -- the answer of the device, as the session uses it
       abbrev taken : ℕ → Result ℕ Errno → Acted
@@ -312,8 +238,7 @@ module _ (s : Setup) (m : Told) (name : List ℕ) (client : ClientRecord) (devic
         where
           by : (b : Option Errno) → remask_answer (device_of st) (Conn name) text ≡ unless_refused made (first_of_two None b)
               → IsAct s m name (Said (Ok (Remask device text))) (taken i (unless_refused (length y.queue.scans) b))
-          by (Some e) answer = is_refused e answer
-          by None answer = record { answer = reply_is (Ok made) answer; state = state_is answer; client = client_is answer i here }
+          by b answer = grind (arith, common_steps, is_refused, reply_is, state_is, client_is)
 
       by_own : (i : ℕ) → slice_get client.seats i ≡ Some (seat_state_by k y) → (a : Option Errno) → first_refusal own_list ≡ a
           → IsAct s m name (Said (Ok (Remask device text))) (remask_wanted (front_of s) (machine_of m) client i (seat_state_by k y) (unless_refused mask a))
@@ -322,10 +247,7 @@ module _ (s : Setup) (m : Told) (name : List ℕ) (client : ClientRecord) (devic
 
       at_seat : (i : ℕ) → slice_get client.seats i ≡ Some (seat_state_by k y)
           → IsAct s m name (Said (Ok (Remask device text))) (remask_seat (front_of s) (machine_of m) client text i (Some (seat_state_by k y)))
-      at_seat i here =
-          subst (λ (r : Result ℕ Errno). IsAct s m name (Said (Ok (Remask device text)))
-          (remask_wanted (front_of s) (machine_of m) client i (seat_state_by k y) r))
-          (sym wanted_is) (by_own i here (first_refusal own_list) refl)
+      at_seat i here = search (rules, wanted_is, by_own)
 
     by_seat : is_input st.kind ≡ true → st.site.plugged ≡ true → (o : Option Seat) → seat_of (Conn name) st.seats ≡ o
         → IsAct s m name (Said (Ok (Remask device text))) (remask_place (front_of s) (machine_of m) client text (place_of k client.seats))
@@ -351,8 +273,4 @@ module _ (s : Setup) (m : Told) (name : List ℕ) (client : ClientRecord) (devic
 pub remask_is : (s : Setup) (m : Told) (name : List ℕ) (client : ClientRecord) (device text : List ℕ) → IsBench s m → IsClientOf m name client
     → IsAct s m name (Said (Ok (Remask device text))) (act (front_of s) (machine_of m) client (Said (Ok (Remask device text))))
 unfolding act
-remask_is s m name client device text bench d =
-    at_named s m name client (Said (Ok (Remask device text))) device
-    (λ k. where_known (is_input (kind_at (front_of s) k)) (machine_of m) client k (remask_at (front_of s) (machine_of m) client text k)) bench d
-    (names s m name client device text)
-    (λ k st found at. remask_here s m name client device text k st bench d found at)
+remask_is s m name client device text bench d = search (rules, at_named, names, remask_here)

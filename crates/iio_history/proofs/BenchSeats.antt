@@ -1,5 +1,6 @@
 -- Seats by the name of their connection are members by number.
-use Rattle.std.proofs.Common.{◌≡◌, ℕ, suc, ◌/◌, ◌≤◌, ◌<◌, ◌==◌, ◌||◌, ◌&&◌, not, Bool, true, false, List, [], ◌∷◌, ◌++◌, map, take, drop, find, is_none, is_some, Option, Some, None, option_map, cond, refl, sym, ap, ◌∙◌, subst, arith}
+use Rattle.std.proofs.Common.{◌≡◌, ℕ, suc, ◌/◌, ◌≤◌, ◌<◌, ◌==◌, ◌||◌, not, Bool, true, false, List, [], ◌∷◌, map, take, drop, find, is_none, is_some, Option, Some, None, option_map, cond, refl, sym, ap, ◌∙◌, subst, arith, rules}
+use Rattle.std.proofs.lemmas.Grind.{common_steps}
 use Rattle.std.proofs.lemmas.Bool.Decides.{nat_tests}
 use Rattle.iio_layout.specs.Shape.{ShapeRecord}
 use Rattle.iio_layout.specs.Layout.{scan_size}
@@ -15,7 +16,7 @@ use Rattle.iio_history.specs.Machine.{read_seat, without_seats}
 use Rattle.iio_history.specs.Reply.{seat_of}
 use Rattle.iio_history.specs.Law.{AreApart}
 use Rattle.iio_history.specs.Bench.{Every, NumbersRise, inner_of, numbered}
-use Rattle.iio_history.proofs.WhoLaws.{either, same_is, same_sym}
+use Rattle.iio_history.proofs.WhoLaws.{either, same_is}
 use Rattle.iio_core.proofs.PlaceLists.{itself}
 
 -- a connection's seat; an inner member has none
@@ -35,11 +36,7 @@ apart_number n number h = grind (arith, nat_tests)
 
 -- a seat with another number isn't this one
 no_seat : (x : Seat) (number : ℕ) → (x.number == number) ≡ false → is_seat_of number (numbered x) ≡ false
-no_seat x number other = ap (λ (b : Bool). is_none (inner_of x.member.who) && b) other ∙ by (is_none (inner_of x.member.who))
-  where
-    by : (b : Bool) → (b && false) ≡ false
-    by true = refl
-    by false = refl
+no_seat x number other = search rules
 
 -- after the seat with the number there is none with its name and none with its number
 behind : (who : Who) (y : Seat) (low high : ℕ) (xs : List Seat) → y.number < low → is_member who (map member_of_seat xs) ≡ false → NumbersRise low high xs
@@ -57,8 +54,7 @@ found_above who low high [] y rising is = cc
 found_above who low high (x ∷ xs) y rising is = by_who (same who x.member.who) is (λ h. found_above who (suc x.number) high xs y rising.1 h)
   where
     by_who : (b : Bool) → cond b (Some x) (seat_of who xs) ≡ Some y → (seat_of who xs ≡ Some y → suc x.number ≤ y.number) → low ≤ y.number
-    by_who true h rest = let one : x ≡ y = cc in subst (λ (z : Seat). low ≤ z.number) one rising.0
-    by_who false h rest = let more = rest h in omega (arith, more, rising.0)
+    by_who b h rest = search rules
 
 pub tell_same : (who : Who) (low high : ℕ) (xs : List Seat) (y : Seat) → IsSeats who → AreApart (map member_of_seat xs) → NumbersRise low high xs
     → seat_of who xs ≡ Some y → TellSame who y xs
@@ -71,17 +67,7 @@ tell_same who low high (x ∷ xs) y seats apart rising is =
     by_who : (b : Bool) → same who x.member.who ≡ b → cond b (Some x) (seat_of who xs) ≡ Some y
         → (seat_of who xs ≡ Some y → TellSame who y xs) → (seat_of who xs ≡ Some y → suc x.number ≤ y.number)
         → TellSame who y (x ∷ xs)
-    by_who true own h rest more =
-        let one : x ≡ y = cc in
-        let name : x.member.who ≡ who = sym (same_is who x.member.who own) in
-        let absent : is_member who (map member_of_seat xs) ≡ false = subst (λ (w : Who). is_member w (map member_of_seat xs) ≡ false) name apart.0 in
-        subst (λ (z : Seat). TellSame who z (x ∷ xs)) one (
-          own ∙ sym (ap (λ (w : Who). is_none (inner_of w) && (x.number == x.number)) name ∙ ap (λ (b : Bool). b && (x.number == x.number)) seats
-              ∙ itself x.number),
-          λ is. refl,
-          behind who x (suc x.number) high xs (omega arith) absent rising.1,
-        )
-    by_who false other h rest more = (other ∙ sym (no_seat x y.number (apart_number x.number y.number (more h))), λ own. cc, rest h)
+    by_who b own h rest more = search (rules, same_is, is_none, itself, behind, no_seat, apart_number)
 
 -- ---- the seat of a connection, or none
 
@@ -92,8 +78,7 @@ absent_seat who (x ∷ xs) absent =
     ap (λ (b : Bool). cond b (Some x) (seat_of who xs)) parts.0 ∙ absent_seat who xs parts.1
 
 is_some_by : (b : Bool) (x : Seat) (found : Option Seat) (rest : Bool) → rest ≡ is_some found → (b || rest) ≡ is_some (cond b (Some x) found)
-is_some_by true x found rest h = refl
-is_some_by false x found rest h = h
+is_some_by b x found rest h = search rules
 
 pub member_seat : (who : Who) (xs : List Seat) → is_member who (map member_of_seat xs) ≡ is_some (seat_of who xs)
 member_seat who [] = refl
@@ -105,17 +90,12 @@ abbrev pub id_of_seat : Seat → MemberId
 id_of_seat x = record { number = x.number; mask = x.member.mask }
 
 pub tell_id : (own : Bool) (x y : Seat) → own ≡ is_seat_of y.number (numbered x) → (own ≡ true → x ≡ y) → own ≡ is_id_of (id_of_seat y) (numbered x)
-tell_id true x y tell one =
-    sym (itself x.member.mask) ∙ ap (λ (z : Seat). x.member.mask == z.member.mask) (one refl) ∙ ap (λ (b : Bool). b && (x.member.mask == y.member.mask)) tell
-tell_id false x y tell one = ap (λ (b : Bool). b && (x.member.mask == y.member.mask)) tell
+tell_id own x y tell one = search rules
 
 scans_by : (a b : Bool) (x y : Seat) (found : Option Seat) (more : List (List ℕ)) → a ≡ b → (a ≡ true → x ≡ y) → cond a (Some x) found ≡ Some y
     → (found ≡ Some y → more ≡ y.queue.scans)
     → cond b x.queue.scans more ≡ y.queue.scans
-scans_by true true x y found more p one is rest = ap (λ (z : Seat). z.queue.scans) (one refl)
-scans_by true false x y found more p one is rest = cc
-scans_by false true x y found more p one is rest = cc
-scans_by false false x y found more p one is rest = rest is
+scans_by a b x y found more p one is rest = search rules
 
 pub scans_same : (who : Who) (y : Seat) (xs : List Seat) → TellSame who y xs → seat_of who xs ≡ Some y
     → scans_in (id_of_seat y) (map numbered xs) ≡ y.queue.scans
@@ -127,10 +107,7 @@ scans_same who y (x ∷ xs) tell is =
 member_by : (a b : Bool) (x y : Seat) (found : Option Seat) (more : Option MachineMember) → a ≡ b → (a ≡ true → x ≡ y) → cond a (Some x) found ≡ Some y
     → (found ≡ Some y → more ≡ Some (numbered y))
     → cond b (Some (numbered x)) more ≡ Some (numbered y)
-member_by true true x y found more p one is rest = ap (λ (z : Seat). Some (numbered z)) (one refl)
-member_by true false x y found more p one is rest = cc
-member_by false true x y found more p one is rest = cc
-member_by false false x y found more p one is rest = rest is
+member_by a b x y found more p one is rest = search rules
 
 pub member_same : (who : Who) (y : Seat) (xs : List Seat) → TellSame who y xs → seat_of who xs ≡ Some y
     → member_in (id_of_seat y) (map numbered xs) ≡ Some (numbered y)
@@ -142,73 +119,50 @@ member_same who y (x ∷ xs) tell is =
 -- ---- a member leaves
 
 pub among_one : (who x : Who) → is_among x (who ∷ []) ≡ same who x
-among_one who x = or_false (same x who) ∙ same_sym x who
-  where
-    or_false : (b : Bool) → (b || false) ≡ b
-    or_false true = refl
-    or_false false = refl
+among_one who x = search rules
 
 left_by : (a b : Bool) (x : Seat) (rest : List Seat) (members : List MachineMember) → a ≡ b → map numbered rest ≡ members
     → map numbered (cond a rest (x ∷ rest)) ≡ cond (not b) (numbered x ∷ members) members
-left_by true true x rest members p is = is
-left_by true false x rest members p is = cc
-left_by false true x rest members p is = cc
-left_by false false x rest members p is = ap (λ (ms : List MachineMember). numbered x ∷ ms) is
+left_by a b x rest members p is = search rules
 
 pub left_same : (who : Who) (y : Seat) (xs : List Seat) → TellSame who y xs → map numbered (without_seats (who ∷ []) xs) ≡ without y.number (map numbered xs)
 left_same who y [] tell = refl
-left_same who y (x ∷ xs) tell =
-    left_by (is_among x.member.who (who ∷ [])) (is_seat_of y.number (numbered x)) x (without_seats (who ∷ []) xs) (without y.number (map numbered xs))
-    (among_one who x.member.who ∙ tell.0) (left_same who y xs tell.2)
+left_same who y (x ∷ xs) tell = search (rules, left_by, numbered, among_one, left_same who y xs tell.2)
 
 left_none_by : (a b : Bool) (x : Seat) (found : Option Seat) (rest xs : List Seat) → a ≡ b → cond b (Some x) found ≡ None → (found ≡ None → rest ≡ xs)
     → cond a rest (x ∷ rest) ≡ x ∷ xs
-left_none_by a true x found rest xs p none is = cc
-left_none_by true false x found rest xs p none is = cc
-left_none_by false false x found rest xs p none is = ap (λ (ys : List Seat). x ∷ ys) (is none)
+left_none_by a b x found rest xs p none is = search rules
 
 pub left_none : (who : Who) (xs : List Seat) → seat_of who xs ≡ None → without_seats (who ∷ []) xs ≡ xs
 left_none who [] none = refl
-left_none who (x ∷ xs) none =
-    left_none_by (is_among x.member.who (who ∷ [])) (same who x.member.who) x (seat_of who xs) (without_seats (who ∷ []) xs) xs (among_one who x.member.who)
-    none (left_none who xs)
+left_none who (x ∷ xs) none = grind (arith, common_steps, left_none_by, same, among_one, left_none who xs)
 
 gone_by : (a b : Bool) (x : Seat) (who : Who) (rest : List Seat) → a ≡ b → same who x.member.who ≡ b → seat_of who rest ≡ None
     → seat_of who (cond a rest (x ∷ rest)) ≡ None
-gone_by true b x who rest p is none = none
-gone_by false true x who rest p is none = cc
-gone_by false false x who rest p is none = ap (λ (t : Bool). cond t (Some x) (seat_of who rest)) is ∙ none
+gone_by a b x who rest p is none = search rules
 
 pub gone : (who : Who) (xs : List Seat) → seat_of who (without_seats (who ∷ []) xs) ≡ None
 gone who [] = refl
-gone who (x ∷ xs) =
-    gone_by (is_among x.member.who (who ∷ [])) (same who x.member.who) x who (without_seats (who ∷ []) xs) (among_one who x.member.who) refl (gone who xs)
+gone who (x ∷ xs) = search (rules, gone_by, same, among_one, gone who xs)
 
 -- what is lost with it is counted
 gone_none_by : (a b : Bool) (who : Who) (x : Seat) (found : Option Seat) (xs : List Seat) (t : Totals) → a ≡ b → cond b (Some x) found ≡ None
     → ((u : Totals) → found ≡ None → with_gone (who ∷ []) xs u ≡ u) → with_gone (who ∷ []) xs (cond a (with_lost x.queue.lost t) t) ≡ t
-gone_none_by a true who x found xs t p none is = cc
-gone_none_by true false who x found xs t p none is = cc
-gone_none_by false false who x found xs t p none is = is t none
+gone_none_by a b who x found xs t p none is = search rules
 
 pub gone_none : (who : Who) (xs : List Seat) (t : Totals) → seat_of who xs ≡ None → with_gone (who ∷ []) xs t ≡ t
 gone_none who [] t none = refl
-gone_none who (x ∷ xs) t none =
-    gone_none_by (is_among x.member.who (who ∷ [])) (same who x.member.who) who x (seat_of who xs) xs t (among_one who x.member.who) none (gone_none who xs)
+gone_none who (x ∷ xs) t none = search (rules, gone_none_by, same, among_one, gone_none who xs)
 
 lost_with : (a b : Bool) (who : Who) (x y : Seat) (found : Option Seat) (xs : List Seat) (more : Option ℕ) (t : Totals) → a ≡ b → cond a (Some x) found ≡ Some y
     → (a ≡ true → with_gone (who ∷ []) xs (with_lost x.queue.lost t) ≡ with_lost x.queue.lost t)
     → (found ≡ Some y → with_gone (who ∷ []) xs t ≡ with_left more t)
     → with_gone (who ∷ []) xs (cond a (with_lost x.queue.lost t) t) ≡ with_left (cond b (Some x.queue.lost) more) t
-lost_with true true who x y found xs more t p is alone rest = alone refl
-lost_with true false who x y found xs more t p is alone rest = cc
-lost_with false true who x y found xs more t p is alone rest = cc
-lost_with false false who x y found xs more t p is alone rest = rest is
+lost_with a b who x y found xs more t p is alone rest = search rules
 
 lost_found : (b : Bool) (x : MachineMember) (o : Option MachineMember)
     → option_map (λ (z : MachineMember). z.lost) (cond b (Some x) o) ≡ cond b (Some x.lost) (option_map (λ (z : MachineMember). z.lost) o)
-lost_found true x o = refl
-lost_found false x o = refl
+lost_found b x o = search rules
 
 pub lost_same : (who : Who) (y : Seat) (xs : List Seat) (t : Totals) → AreApart (map member_of_seat xs) → TellSame who y xs → seat_of who xs ≡ Some y
     → with_gone (who ∷ []) xs t ≡ with_left (lost_by y.number (map numbered xs)) t
@@ -225,29 +179,18 @@ lost_same who y (x ∷ xs) t apart tell is =
 
 read_none_by : (b : Bool) (x z : Seat) (found : Option Seat) (rest xs : List Seat) → cond b (Some x) found ≡ None → (found ≡ None → rest ≡ xs)
     → cond b z x ∷ rest ≡ x ∷ xs
-read_none_by true x z found rest xs none is = cc
-read_none_by false x z found rest xs none is = ap (λ (ys : List Seat). x ∷ ys) (is none)
+read_none_by b x z found rest xs none is = search rules
 
 pub read_none : (shape : ShapeRecord) (who : Who) (bytes : ℕ) (xs : List Seat) → seat_of who xs ≡ None → map (read_seat shape who bytes) xs ≡ xs
 read_none shape who bytes [] none = refl
-read_none shape who bytes (x ∷ xs) none =
-    read_none_by (same who x.member.who) x _ (seat_of who xs) (map (read_seat shape who bytes) xs) xs none (read_none shape who bytes xs)
-
--- one seat that is read, as a member
-abbrev taken_member : ShapeRecord → ℕ → Seat → MachineMember
-taken_member shape bytes x = numbered (record x { queue = taken_from (bytes / scan_size shape x.member.mask) x.queue })
+read_none shape who bytes (x ∷ xs) none = grind (arith, common_steps, read_none_by, same, read_none shape who bytes xs)
 
 taken_by : (shape : ShapeRecord) (bytes : ℕ) (a b : Bool) (x y : Seat) (xs rest : List Seat) (found : Option Seat) (more : List MachineMember) → a ≡ b
     → (a ≡ true → x ≡ y)
     → (a ≡ true → rest ≡ xs) → (found ≡ Some y → more ≡ map numbered rest) → cond a (Some x) found ≡ Some y
     → cond b (record (numbered x) { scans = drop (bytes / scan_size shape y.member.mask) y.queue.scans } ∷ map numbered xs) (numbered x ∷ more)
     ≡ map numbered (cond a (record x { queue = taken_from (bytes / scan_size shape x.member.mask) x.queue }) x ∷ rest)
-taken_by shape bytes true true x y xs rest found more p one none is h =
-    ap (λ (z : Seat). record (numbered x) { scans = drop (bytes / scan_size shape z.member.mask) z.queue.scans } ∷ map numbered xs) (sym (one refl))
-    ∙ ap (λ (ys : List Seat). taken_member shape bytes x ∷ map numbered ys) (sym (none refl))
-taken_by shape bytes true false x y xs rest found more p one none is h = cc
-taken_by shape bytes false true x y xs rest found more p one none is h = cc
-taken_by shape bytes false false x y xs rest found more p one none is h = ap (λ (ms : List MachineMember). numbered x ∷ ms) (is h)
+taken_by shape bytes a b x y xs rest found more p one none is h = search rules
 
 pub taken_same : (shape : ShapeRecord) (who : Who) (bytes : ℕ) (y : Seat) (xs : List Seat) → AreApart (map member_of_seat xs) → TellSame who y xs
     → seat_of who xs ≡ Some y
@@ -265,30 +208,22 @@ taken_same shape who bytes y (x ∷ xs) apart tell is =
 given_by : (b : Bool) (x y : Seat) (found : Option Seat) (shape : ShapeRecord) (bytes : ℕ) (rest : List (List ℕ)) → cond b (Some x) found ≡ Some y
     → (found ≡ Some y → rest ≡ take (bytes / scan_size shape y.member.mask) y.queue.scans)
     → cond b (take (bytes / scan_size shape x.member.mask) x.queue.scans) rest ≡ take (bytes / scan_size shape y.member.mask) y.queue.scans
-given_by true x y found shape bytes rest is more = let one : x ≡ y = cc in ap (λ (z : Seat). take (bytes / scan_size shape z.member.mask) z.queue.scans) one
-given_by false x y found shape bytes rest is more = more is
+given_by b x y found shape bytes rest is more = search rules
 
 pub given_same : (shape : ShapeRecord) (who : Who) (bytes : ℕ) (y : Seat) (xs : List Seat) → seat_of who xs ≡ Some y
     → scans_given shape who bytes xs ≡ take (bytes / scan_size shape y.member.mask) y.queue.scans
 given_same shape who bytes y [] is = cc
-given_same shape who bytes y (x ∷ xs) is =
-    given_by (same who x.member.who) x y (seat_of who xs) shape bytes (scans_given shape who bytes xs) is (given_same shape who bytes y xs)
+given_same shape who bytes y (x ∷ xs) is = grind (arith, common_steps, given_by, same, scans_given, given_same shape who bytes y xs)
 
 given_none_by : (b : Bool) (x : Seat) (found : Option Seat) (scans rest : List (List ℕ)) → cond b (Some x) found ≡ None → (found ≡ None → rest ≡ [])
     → cond b scans rest ≡ []
-given_none_by true x found scans rest none is = cc
-given_none_by false x found scans rest none is = is none
+given_none_by b x found scans rest none is = search rules
 
 pub given_none : (shape : ShapeRecord) (who : Who) (bytes : ℕ) (xs : List Seat) → seat_of who xs ≡ None → scans_given shape who bytes xs ≡ []
 given_none shape who bytes [] none = refl
-given_none shape who bytes (x ∷ xs) none =
-    given_none_by (same who x.member.who) x (seat_of who xs) _ (scans_given shape who bytes xs) none (given_none shape who bytes xs)
+given_none shape who bytes (x ∷ xs) none = grind (arith, common_steps, given_none_by, same, scans_given, given_none shape who bytes xs)
 
 -- ---- a new member, and the masks of all
-
-pub joined_numbered : (xs : List Seat) (y : Seat) → map numbered (xs ++ y ∷ []) ≡ map numbered xs ++ numbered y ∷ []
-joined_numbered [] y = refl
-joined_numbered (x ∷ xs) y = ap (λ (ms : List MachineMember). numbered x ∷ ms) (joined_numbered xs y)
 
 pub masks_same : (xs : List Seat) → masks_of (map numbered xs) ≡ map mask_of_member (map member_of_seat xs)
 masks_same [] = refl
@@ -301,8 +236,4 @@ empty_same (x ∷ xs) = refl
 -- what holds of every seat holds of a seat that is found
 pub found_sound : (who : Who) (P : Seat → Type 0) (xs : List Seat) (y : Seat) → Every P xs → seat_of who xs ≡ Some y → P y
 found_sound who P [] y all is = cc
-found_sound who P (x ∷ xs) y all is = by (same who x.member.who) is (found_sound who P xs y all.1)
-  where
-    by : (b : Bool) → cond b (Some x) (seat_of who xs) ≡ Some y → (seat_of who xs ≡ Some y → P y) → P y
-    by true h rest = let one : x ≡ y = cc in subst P one all.0
-    by false h rest = rest h
+found_sound who P (x ∷ xs) y all is = search (rules, same, found_sound who P xs y all.1)

@@ -1,5 +1,5 @@
 -- Scans with a channel's data have at least one byte.
-use Rattle.std.proofs.Common.{◌≡◌, ℕ, zero, suc, ◌<◌, ◌≤◌, ◌||◌, Bool, true, false, List, [], ◌∷◌, ◌++◌, map, length, get_or, All, refl, sym, ◌∙◌, subst, arith}
+use Rattle.std.proofs.Common.{◌≡◌, ℕ, zero, suc, ◌<◌, ◌≤◌, true, List, [], ◌∷◌, ◌++◌, map, length, get_or, All, sym, ◌∙◌, subst, arith, rules}
 use Rattle.std.proofs.lemmas.List.{get_or-map, get_or_append_left, length-append, length-map}
 use Rattle.iio_mask.specs.Mask.{has}
 use Rattle.iio_scan_type.specs.Format.{Format, size_of, stamp_format}
@@ -12,12 +12,7 @@ use Rattle.iio_history.specs.Bench.{HasSizes}
 
 some_data : (mask n : ℕ) → has_below mask n ≡ true → (c : ℕ) × (c < n) × (has mask c ≡ true)
 some_data mask zero h = cc
-some_data mask (suc n) h = by (has mask n) refl h (some_data mask n)
-  where
-    by : (b : Bool) → has mask n ≡ b → (b || has_below mask n) ≡ true → (has_below mask n ≡ true → (c : ℕ) × (c < n) × (has mask c ≡ true)) → (c : ℕ)
-        × (c < suc n) × (has mask c ≡ true)
-    by true e h below = (n, omega arith, e)
-    by false e h below = let s = below h in (s.0, omega (arith, s.1), s.2)
+some_data mask (suc n) h = search (rules, some_data mask n)
 
 size_there : (xs : List Channel) (rest : List Format) (c : ℕ) → All (λ (channel : Channel). 1 ≤ size_of channel.ty) xs → c < length xs
     → 1 ≤ size_of (get_or (map (λ channel. channel.ty) xs ++ rest) c (stamp_format Little))

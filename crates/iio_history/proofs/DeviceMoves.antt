@@ -1,5 +1,5 @@
 -- What isn't a connection's call, at a device: by its own view, and by the history.
-use Rattle.std.proofs.Common.{◌≡◌, ℕ, ◌-◌, ◌^◌, Bool, true, false, List, Option, Some, slice_get, option_map, cond, ap, ◌∙◌, arith}
+use Rattle.std.proofs.Common.{◌≡◌, ℕ, ◌-◌, ◌^◌, Bool, true, false, List, Option, Some, slice_get, option_map, cond, ap, ◌∙◌, arith, rules}
 use Rattle.std.proofs.lemmas.Bool.Decides.{nat_tests}
 use Rattle.std.specs.Prelude.{◌==◌, ℤ}
 use Rattle.iio_layout.specs.Shape.{ShapeRecord}
@@ -10,9 +10,9 @@ use Rattle.iio_device.specs.Active.{active_for}
 use Rattle.iio_device.specs.Device.{DeviceView, Handles, after_sense, at_site}
 use Rattle.iio_device.specs.Members.{masks_of}
 use Rattle.iio_device.specs.Site.{unplugged}
-use Rattle.iio_desc.specs.Kind.{Kind, Input, is_unplugged_by}
+use Rattle.iio_desc.specs.Kind.{Kind, Input}
 use Rattle.iio_core.specs.Front.{kind_at, shape_at}
-use Rattle.iio_core.specs.Machine.{Machine, Station, with_site, with_station}
+use Rattle.iio_core.specs.Machine.{Machine, Station}
 use Rattle.iio_core.proofs.PlaceLists.{get_first}
 use Rattle.iio_history.specs.Event.{Handled as HandledAt, Sensed as SensedAt, Unplugged}
 use Rattle.iio_history.specs.Registry.{Setup}
@@ -20,8 +20,8 @@ use Rattle.iio_core.specs.Trigger.{entries_at, entry_of}
 use Rattle.iio_history.specs.Told.{Told}
 use Rattle.iio_history.specs.Machine.{step}
 use Rattle.iio_history.specs.Bench.{IsBench, front_of, machine_of}
-use Rattle.iio_core.specs.Moves.{capture_at, entry_at, station_after_entry, station_after_look, unplugs}
-use Rattle.iio_core.specs.Devices.{AreMet, IsAt, station_met, station_of}
+use Rattle.iio_core.specs.Moves.{capture_at, entry_at, station_after_entry}
+use Rattle.iio_core.specs.Devices.{AreMet, IsAt, station_met}
 use Rattle.iio_history.proofs.BenchMoves.{handling_is, look_is, unplugging_is}
 use Rattle.iio_core.proofs.DeviceLaws.{looks_agree}
 use Rattle.iio_core.proofs.DeviceHandlings.{handled_is}
@@ -30,22 +30,12 @@ module _ {Q : Type 0} (lost capacity : Q → ℕ) where
   pub ends_agree : (waits : Q → List (List ℕ)) (s : Setup) (m : Told) (k : ℕ) (d : DeviceView Q) → IsBench s m → kind_at (front_of s) k ≡ Input
       → IsAt lost capacity waits (machine_of m) k d
       → IsAt lost capacity waits (machine_of (step s m (Unplugged k))) k (at_site (unplugged d.site) d)
-  ends_agree waits s m k d bench input here =
-      let own : (k == k) ≡ true = grind (arith, nat_tests) in
-      ap (λ (x : Machine). slice_get x.stations k) (unplugging_is s m k bench)
-      ∙ get_first (unplugs (front_of s) k) (machine_of m).stations k
-      ∙ ap (λ (o : Option Station). option_map (unplugs (front_of s) k k) o) here
-      ∙ ap (λ (kind : Kind). Some (cond (is_unplugged_by kind k k) (with_site unplugged (station_of lost capacity waits d)) (station_of lost capacity waits d)))
-      input
-      ∙ ap (λ (b : Bool). Some (cond b (with_site unplugged (station_of lost capacity waits d)) (station_of lost capacity waits d))) own
+  ends_agree waits s m k d bench input here = search (rules, unplugging_is, get_first)
 
   pub told_looks_agree : (waits : Q → List (List ℕ)) (s : Setup) (m : Told) (k : ℕ) (t : ℤ) (d : DeviceView Q) → IsBench s m
       → shape_at (front_of s) k ≡ d.standing.shape
       → IsAt lost capacity waits (machine_of m) k d → IsAt lost capacity waits (machine_of (step s m (SensedAt k t))) k (after_sense t d)
-  told_looks_agree waits s m k t d bench shaped here =
-      ap (λ (x : Machine). slice_get x.stations k) (look_is s m k t bench)
-      ∙ ap (λ (shape : ShapeRecord). slice_get (with_station (station_after_look shape t) k (machine_of m)).stations k) shaped
-      ∙ looks_agree lost capacity waits (machine_of m) k t d here
+  told_looks_agree waits s m k t d bench shaped here = search (rules, look_is, looks_agree)
 
 module _ {Q : Type 0} (taken lost size capacity : Q → ℕ) (offer_gives : Q → List ℕ → Offered → Q → Type 0) where
   pub told_handlings_agree : (waits : Q → List (List ℕ)) (waited : Q → Q → List (List ℕ)) (s : Setup) (m : Told) (trigger k : ℕ) (due : Handed) (r : Handled)

@@ -1,16 +1,14 @@
 -- What an act at a device makes of its members is the same by the history and by the machine.
-use Rattle.std.proofs.Common.{◌≡◌, ℕ, ◌/◌, Bool, true, false, List, [], ◌∷◌, ◌++◌, map, length, cond, refl, sym, ap, ◌∙◌}
+use Rattle.std.proofs.Common.{◌≡◌, ℕ, Bool, true, false, List, [], ◌∷◌, ◌++◌, map, length, cond, refl, ap, ◌∙◌, rules}
 use Rattle.iio_layout.specs.Shape.{ShapeRecord}
 use Rattle.iio_layout.specs.Layout.{scan_size}
-use Rattle.iiod_commands.specs.Client.{more_discarded}
-use Rattle.iio_history.specs.Who.{Who, Conn, Inner, same, is_among}
+use Rattle.iio_history.specs.Who.{Who, same}
 use Rattle.iio_history.specs.Registry.{Member, is_member, without_members}
 use Rattle.iio_core.specs.Moves.{Capture}
-use Rattle.iio_history.specs.Act.{Act, Joining, Remasking, Leaving, Ending, Reading, Capturing, Writing, Giving}
+use Rattle.iio_history.specs.Act.{Act, Joining, Remasking, Reading, Capturing, Writing, Giving}
 use Rattle.iio_history.specs.Fold.{with_mask, members_after}
-use Rattle.iio_history.specs.Log.{Logged, Taken, Offered, logged, logged_capture}
-use Rattle.iio_history.specs.Queue.{new_queue, offered, private_queue}
-use Rattle.iio_layout.specs.Scan.{scan_of}
+use Rattle.iio_history.specs.Log.{Logged, logged}
+use Rattle.iio_history.specs.Queue.{new_queue, private_queue}
 use Rattle.iio_history.specs.Membership.{numbered, discarded_by}
 use Rattle.iio_history.specs.Told.{Seat, member_of_seat}
 use Rattle.iio_history.specs.Machine.{emptied, offered_seat, read_seat, wrote_seat, gave_seat, remasked_seat, without_seats, seats_after}
@@ -54,77 +52,34 @@ IsSound shape book waiting act ms = Unit {0}
 captured : (shape : ShapeRecord) (c : Capture) (joinings waiting : ℕ) (book : Book) (ms : List Member)
     → map (seat_by shape (book_after (Capturing c) joinings waiting book)) ms ≡ map (offered_seat shape c) (map (seat_by shape book) ms)
 captured shape c joinings waiting book [] = refl
-captured shape c joinings waiting book (m ∷ ms) =
-    ap (λ (x : Seat). x ∷ map (seat_by shape (book_after (Capturing c) joinings waiting book)) ms) (by_who m.who)
-    ∙ ap (λ (xs : List Seat). offered_seat shape c (seat_by shape book m) ∷ xs) (captured shape c joinings waiting book ms)
-  where
-    log : List Logged
-    log = book.log m.who (scan_size shape m.mask)
-
-    by_who : (w : Who) → seat_with shape (logged_capture w c log) (book.number m.who) (book.discarded m.who) m
-        ≡ record {
-          member = m;
-          number = book.number m.who;
-          queue =
-              emptied w (offered m.capacity (scan_of shape m.mask c.values c.moment) (private_queue shape m log));
-          discarded = book.discarded m.who;
-        }
-    by_who (Conn name) = refl
-    by_who (Inner j) = refl
+captured shape c joinings waiting book (m ∷ ms) = search (rules, emptied, captured shape c joinings waiting book ms)
 
 left_one : (shape : ShapeRecord) (book : Book) (b : Bool) (m : Member) (rest : List Member) (seats : List Seat) → map (seat_by shape book) rest ≡ seats
     → map (seat_by shape book) (cond b rest (m ∷ rest)) ≡ cond b seats (seat_by shape book m ∷ seats)
-left_one shape book true m rest seats is = is
-left_one shape book false m rest seats is = ap (λ (xs : List Seat). seat_by shape book m ∷ xs) is
+left_one shape book b m rest seats is = search rules
 
 left : (shape : ShapeRecord) (book : Book) (gone : List Who) (ms : List Member)
     → map (seat_by shape book) (without_members gone ms) ≡ without_seats gone (map (seat_by shape book) ms)
 left shape book gone [] = refl
-left shape book gone (m ∷ ms) =
-    left_one shape book (is_among m.who gone) m (without_members gone ms) (without_seats gone (map (seat_by shape book) ms)) (left shape book gone ms)
+left shape book gone (m ∷ ms) = search (rules, left_one, left shape book gone ms)
 
 read_one : (shape : ShapeRecord) (joinings waiting : ℕ) (book : Book) (who : Who) (bytes : ℕ) (m : Member)
     → seat_by shape (book_after (Reading who bytes) joinings waiting book) m ≡ read_seat shape who bytes (seat_by shape book m)
-read_one shape joinings waiting book who bytes m = by_who (same who m.who)
-  where
-    log : List Logged
-    log = book.log m.who (scan_size shape m.mask)
-
-    seat : List Logged → Seat
-    seat entries = seat_with shape entries (book.number m.who) (book.discarded m.who) m
-
-    by_who : (b : Bool) → seat_with shape (cond b (Taken (bytes / scan_size shape m.mask) ∷ log) log) (book.number m.who) (book.discarded m.who) m
-        ≡ cond b (seat_with shape (Taken (bytes / scan_size shape m.mask) ∷ log) (book.number m.who) (book.discarded m.who) m)
-        (seat_with shape log (book.number m.who) (book.discarded m.who) m)
-    by_who true = refl
-    by_who false = refl
+read_one shape joinings waiting book who bytes m = search rules
 
 read : (shape : ShapeRecord) (joinings waiting : ℕ) (book : Book) (who : Who) (bytes : ℕ) (ms : List Member)
     → map (seat_by shape (book_after (Reading who bytes) joinings waiting book)) ms ≡ map (read_seat shape who bytes) (map (seat_by shape book) ms)
 read shape joinings waiting book who bytes [] = refl
-read shape joinings waiting book who bytes (m ∷ ms) =
-    ap (λ (x : Seat). x ∷ map (seat_by shape (book_after (Reading who bytes) joinings waiting book)) ms) (read_one shape joinings waiting book who bytes m)
-    ∙ ap (λ (xs : List Seat). read_seat shape who bytes (seat_by shape book m) ∷ xs) (read shape joinings waiting book who bytes ms)
+read shape joinings waiting book who bytes (m ∷ ms) = simp (read_one, read shape joinings waiting book who bytes ms)
 
 wrote_one : (shape : ShapeRecord) (joinings waiting : ℕ) (book : Book) (who : Who) (scans : List (List ℕ)) (m : Member)
     → seat_by shape (book_after (Writing who scans) joinings waiting book) m ≡ wrote_seat who scans (seat_by shape book m)
-wrote_one shape joinings waiting book who scans m = by_who (same who m.who)
-  where
-    log : List Logged
-    log = book.log m.who (scan_size shape m.mask)
-
-    by_who : (b : Bool) → seat_with shape (cond b (Offered scans ∷ log) log) (book.number m.who) (book.discarded m.who) m
-        ≡ cond b (seat_with shape (Offered scans ∷ log) (book.number m.who) (book.discarded m.who) m)
-        (seat_with shape log (book.number m.who) (book.discarded m.who) m)
-    by_who true = refl
-    by_who false = refl
+wrote_one shape joinings waiting book who scans m = search rules
 
 wrote : (shape : ShapeRecord) (joinings waiting : ℕ) (book : Book) (who : Who) (scans : List (List ℕ)) (ms : List Member)
     → map (seat_by shape (book_after (Writing who scans) joinings waiting book)) ms ≡ map (wrote_seat who scans) (map (seat_by shape book) ms)
 wrote shape joinings waiting book who scans [] = refl
-wrote shape joinings waiting book who scans (m ∷ ms) =
-    ap (λ (x : Seat). x ∷ map (seat_by shape (book_after (Writing who scans) joinings waiting book)) ms) (wrote_one shape joinings waiting book who scans m)
-    ∙ ap (λ (xs : List Seat). wrote_seat who scans (seat_by shape book m) ∷ xs) (wrote shape joinings waiting book who scans ms)
+wrote shape joinings waiting book who scans (m ∷ ms) = simp (wrote_one, wrote shape joinings waiting book who scans ms)
 
 gave : (shape : ShapeRecord) (joinings waiting : ℕ) (book : Book) (ms : List Member)
     → map (seat_by shape (book_after Giving joinings waiting book)) ms ≡ map gave_seat (map (seat_by shape book) ms)
@@ -134,31 +89,14 @@ gave shape joinings waiting book (m ∷ ms) = ap (λ (xs : List Seat). gave_seat
 remasked_one : (shape : ShapeRecord) (joinings waiting : ℕ) (book : Book) (n : Member) (mask : ℕ) (m : Member)
     → (same n.who m.who ≡ true → m ≡ n) → waiting ≡ length (seat_by shape book n).queue.scans
     → seat_by shape (book_after (Remasking n mask) joinings waiting book) (with_mask n.who mask m) ≡ remasked_seat n.who mask (seat_by shape book m)
-remasked_one shape joinings waiting book n mask m it wait = by_who (same n.who m.who) refl
-  where
-    by_who : (b : Bool) → same n.who m.who ≡ b → seat_by shape (book_after (Remasking n mask) joinings waiting book) (cond b (record m { mask = mask }) m)
-        ≡ cond b
-        (record (seat_by shape book m)
-        { member = record m { mask = mask }; queue = new_queue; discarded = more_discarded (book.discarded m.who) (length (seat_by shape book m).queue.scans) })
-        (seat_by shape book m)
-    by_who true is =
-        ap (λ (b : Bool). seat_with shape (cond b [] (book.log m.who (scan_size shape mask))) (book.number m.who)
-        (cond b (more_discarded (book.discarded m.who) waiting) (book.discarded m.who)) (record m { mask = mask })) is
-        ∙ ap (λ (n : ℕ). seat_with shape [] (book.number m.who) (more_discarded (book.discarded m.who) n) (record m { mask = mask }))
-        (wait ∙ ap (λ (x : Member). length (seat_by shape book x).queue.scans) (sym (it is)))
-    by_who false is =
-        ap (λ (b : Bool). seat_with shape (cond b [] (book.log m.who (scan_size shape m.mask))) (book.number m.who)
-        (cond b (more_discarded (book.discarded m.who) waiting) (book.discarded m.who)) m) is
+remasked_one shape joinings waiting book n mask m it wait = search rules
 
 remasked : (shape : ShapeRecord) (joinings waiting : ℕ) (book : Book) (n : Member) (mask : ℕ) (ms : List Member) → AreIt n ms
     → waiting ≡ length (seat_by shape book n).queue.scans
     → map (seat_by shape (book_after (Remasking n mask) joinings waiting book)) (map (with_mask n.who mask) ms)
     ≡ map (remasked_seat n.who mask) (map (seat_by shape book) ms)
 remasked shape joinings waiting book n mask [] it wait = refl
-remasked shape joinings waiting book n mask (m ∷ ms) it wait =
-    ap (λ (x : Seat). x ∷ map (seat_by shape (book_after (Remasking n mask) joinings waiting book)) (map (with_mask n.who mask) ms))
-    (remasked_one shape joinings waiting book n mask m it.0 wait)
-    ∙ ap (λ (xs : List Seat). remasked_seat n.who mask (seat_by shape book m) ∷ xs) (remasked shape joinings waiting book n mask ms it.1 wait)
+remasked shape joinings waiting book n mask (m ∷ ms) it wait = search (rules, remasked_one, remasked shape joinings waiting book n mask ms it.1 wait)
 
 -- the member that joins, and those before it, of which the book says the same as before
 abbrev joined_seat : ShapeRecord → ℕ → ℕ → Book → Member → Bool → Member → Seat
@@ -178,15 +116,7 @@ joined shape joinings waiting book n (m ∷ ms) new =
 
 pub seats_are : (shape : ShapeRecord) (act : Act) (joinings waiting : ℕ) (book : Book) (ms : List Member) → IsSound shape book waiting act ms
     → map (seat_by shape (book_after act joinings waiting book)) (members_after act ms) ≡ seats_after shape joinings act (map (seat_by shape book) ms)
-seats_are shape (Joining n) joinings waiting book ms sound = joined shape joinings waiting book n ms sound
-seats_are shape (Remasking n mask) joinings waiting book ms sound = remasked shape joinings waiting book n mask ms sound.0 sound.1
-seats_are shape (Leaving gone) joinings waiting book ms sound = left shape book gone ms
-seats_are shape (Ending gone) joinings waiting book ms sound = left shape book gone ms
-seats_are shape (Reading who bytes) joinings waiting book ms sound = read shape joinings waiting book who bytes ms
-seats_are shape (Capturing c) joinings waiting book ms sound = captured shape c joinings waiting book ms
-seats_are shape (Writing who scans) joinings waiting book ms sound = wrote shape joinings waiting book who scans ms
-seats_are shape Giving joinings waiting book ms sound = gave shape joinings waiting book ms
-seats_are shape act joinings waiting book ms sound = refl
+seats_are shape act joinings waiting book ms sound = search (rules, joined, remasked, left, read, captured, wrote, gave)
 
 -- the members of the seats are the members
 pub members_are : (shape : ShapeRecord) (book : Book) (ms : List Member) → map member_of_seat (map (seat_by shape book) ms) ≡ ms

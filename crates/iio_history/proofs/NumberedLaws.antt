@@ -1,15 +1,10 @@
 -- The numbered steps of lines are the steps of their script.
-use Rattle.std.proofs.Common.{◌≡◌, ℕ, ◌+◌, List, [], ◌∷◌, map, Option, Some, None, Result, Ok, Err, refl, ap}
+use Rattle.std.proofs.Common.{◌≡◌, ℕ, ◌+◌, List, [], ◌∷◌, map, Option, Result, Ok, Err, refl, rules}
 use Rattle.iio_text.specs.declared.refusals.Why.{Why}
 use Rattle.iio_desc.specs.Description.{Description}
 use Rattle.iio_history.specs.Transcript.{Step}
 use Rattle.iio_history.specs.Script.{Ending, Refused, Script, first_step, step_after, names_after, script_from}
 use Rattle.iio_history.specs.Numbered.{Numbered, first_numbered, numbered_from, step_of_numbered}
-
-first_same : (n : ℕ) (step : Option Step) (ts : List Numbered) (script : Script) → map step_of_numbered ts ≡ script.steps
-    → map step_of_numbered (first_numbered n step ts) ≡ (first_step step script).steps
-first_same n None ts script is = is
-first_same n (Some step) ts script is = ap (λ (more : List Step). step ∷ more) is
 
 abbrev by_line : Description → Ending → List (List ℕ) → ℕ → List (List ℕ) → Result (Option Step) Why → Script
 by_line desc ending names n lines o = elim o [
@@ -30,7 +25,4 @@ numbered_are_steps desc ending names n (line ∷ lines) =
         → ((step : Option Step) → map step_of_numbered (numbered_from desc (names_after names step) (n + 1) lines)
         ≡ (script_from desc ending (names_after names step) (n + 1) lines).steps)
         → map step_of_numbered (numbered_by desc names n lines o) ≡ (by_line desc ending names n lines o).steps
-    same (Err why) rest = refl
-    same (Ok step) rest =
-        first_same n step (numbered_from desc (names_after names step) (n + 1) lines) (script_from desc ending (names_after names step) (n + 1) lines)
-        (rest step)
+    same o rest = search rules

@@ -1,10 +1,10 @@
 -- Outstanding entries, by the newest event.
-use Rattle.std.proofs.Common.{◌≡◌, ℕ, zero, suc, ℤ, List, [], ◌∷◌, Option, Some, slice_get, option_map, unwrap_or, cond, refl, sym, ap, ◌∙◌}
+use Rattle.std.proofs.Common.{◌≡◌, ℕ, zero, suc, ℤ, List, [], ◌∷◌, Some, slice_get, option_map, cond, refl, ap, rules}
 use Rattle.iio_trigger.specs.Trigger.{Handed, poll_made}
 use Rattle.iio_history.specs.Event.{Event, Polled, Handled}
 use Rattle.iio_history.specs.Registry.{Setup, attachments_of}
 use Rattle.iio_core.specs.Attached.{entries_from}
-use Rattle.iio_core.specs.Trigger.{Trigger, first_trigger, trigger_after_handling, trigger_after_poll, without_entry}
+use Rattle.iio_core.specs.Trigger.{Trigger, without_entry}
 use Rattle.iio_device.specs.Site.{at_place, is_empty}
 use Rattle.iio_history.specs.Fold.{outstanding, registry_after}
 
@@ -20,14 +20,9 @@ got_elsewhere zero (suc j) f (x ∷ xs) other = refl
 got_elsewhere (suc k) zero f (x ∷ xs) other = refl
 got_elsewhere (suc k) (suc j) f (x ∷ xs) other = got_elsewhere k j f xs (λ same. other (ap suc same))
 
--- the entries at a place
-abbrev entries_by : Option Trigger → List Handed
-entries_by o = (unwrap_or o first_trigger).entries
-
 -- a poll is accepted exactly if nothing is outstanding
 made_is : (made es : List Handed) → poll_made made es ≡ cond (is_empty es) made es
-made_is made [] = refl
-made_is made (e ∷ es) = refl
+made_is made es = search rules
 
 pub outstanding_is : (s : Setup) (h : List Event) (trigger : ℕ) (t : Trigger) → slice_get (registry_after s h).triggers trigger ≡ Some t
     → ((moment : ℤ) → outstanding s trigger (Polled trigger moment ∷ h)
@@ -35,17 +30,4 @@ pub outstanding_is : (s : Setup) (h : List Event) (trigger : ℕ) (t : Trigger) 
     × ((k : ℕ) → outstanding s trigger (Handled trigger k ∷ h) ≡ without_entry k (outstanding s trigger h))
     × ((other : ℕ) (moment : ℤ) → (other ≡ trigger → ⊥) → outstanding s trigger (Polled other moment ∷ h) ≡ outstanding s trigger h)
     × ((other k : ℕ) → (other ≡ trigger → ⊥) → outstanding s trigger (Handled other k ∷ h) ≡ outstanding s trigger h)
-outstanding_is s h trigger t is =
-    let r = registry_after s h in
-    let here : outstanding s trigger h ≡ t.entries = ap entries_by is in (
-      λ (moment : ℤ). ap entries_by
-          (got_at trigger (trigger_after_poll (attachments_of r) trigger moment) r.triggers
-          ∙ ap (option_map (trigger_after_poll (attachments_of r) trigger moment)) is)
-          ∙ made_is (entries_from 0 trigger moment (attachments_of r)) t.entries
-          ∙ ap (λ (es : List Handed). cond (is_empty es) (entries_from 0 trigger moment (attachments_of r)) es) (sym here),
-      λ (k : ℕ). ap entries_by (got_at trigger (trigger_after_handling k) r.triggers ∙ ap (option_map (trigger_after_handling k)) is)
-          ∙ ap (without_entry k) (sym here),
-      λ (other : ℕ) (moment : ℤ) (apart : other ≡ trigger → ⊥). ap entries_by
-          (got_elsewhere other trigger (trigger_after_poll (attachments_of r) other moment) r.triggers apart),
-      λ (other k : ℕ) (apart : other ≡ trigger → ⊥). ap entries_by (got_elsewhere other trigger (trigger_after_handling k) r.triggers apart),
-    )
+outstanding_is s h trigger t is = search (rules, got_at, made_is, got_elsewhere)

@@ -1,5 +1,5 @@
 -- Lists whose elements are taken with their places.
-use Rattle.std.proofs.Common.{◌≡◌, ℕ, zero, suc, ◌+◌, List, [], ◌∷◌, Some, slice_get, refl, sym, ap, ◌∙◌, subst, arith}
+use Rattle.std.proofs.Common.{◌≡◌, ℕ, zero, suc, ◌+◌, List, [], ◌∷◌, Some, slice_get, refl, sym, ap, ◌∙◌, subst, arith, rules}
 use Rattle.iio_core.specs.Lists.{map_from}
 
 -- what holds of each element at its place
@@ -17,8 +17,7 @@ each_at {A = A} P k (x ∷ xs) all =
 pub maps_same : {A B C D : Type 0} (f : ℕ → B → C) (g : ℕ → A → B) (f' : ℕ → D → C) (g' : ℕ → A → D) (k : ℕ) (xs : List A)
     → AtEach (λ j x. f j (g j x) ≡ f' j (g' j x)) k xs → map_from f k (map_from g k xs) ≡ map_from f' k (map_from g' k xs)
 maps_same f g f' g' k [] same = refl
-maps_same f g f' g' k (x ∷ xs) same =
-    ap (λ y. y ∷ map_from f (suc k) (map_from g (suc k) xs)) same.0 ∙ ap (λ ys. f' k (g' k x) ∷ ys) (maps_same f g f' g' (suc k) xs same.1)
+maps_same f g f' g' k (x ∷ xs) same = search (rules, maps_same f g f' g' (suc k) xs same.1)
 
 -- what stands at a place afterwards
 pub get_map_from : {A B : Type 0} (f : ℕ → A → B) (k : ℕ) (xs : List A) (j : ℕ) (y : B) → slice_get (map_from f k xs) j ≡ Some y
@@ -28,7 +27,4 @@ get_map_from {B = B} f k (x ∷ xs) zero y is =
     let here : f k x ≡ y = cc in
     let place : k ≡ 0 + k = omega arith in
     (x, refl, sym here ∙ ap (λ (n : ℕ). f n x) place)
-get_map_from f k (x ∷ xs) (suc j) y is =
-    let rest = get_map_from f (suc k) xs j y is in
-    let place : j + suc k ≡ suc j + k = omega arith in
-    (rest.0, rest.1, rest.2 ∙ ap (λ (n : ℕ). f n rest.0) place)
+get_map_from f k (x ∷ xs) (suc j) y is = search (rules, get_map_from f (suc k) xs j y is)

@@ -1,5 +1,5 @@
 -- A description is read once: at the head of an input, and as a text of its own.
-use Rattle.std.proofs.Common.{◌≡◌, ℕ, ◌+◌, false, List, [], ◌∷◌, length, Ok, Err, refl, sym, ap, ◌∙◌, arith}
+use Rattle.std.proofs.Common.{◌≡◌, ℕ, ◌+◌, false, List, [], ◌∷◌, length, Ok, Err, refl, sym, ap, arith, rules}
 use Rattle.iio_text.specs.Lines.{lines_of}
 use Rattle.iio_desc.specs.declared.reader.DescFault.{DescFault}
 use Rattle.iio_desc.specs.DescReader.{Reader, new_reader, after_line, read_lines, read_of, finished}
@@ -15,9 +15,7 @@ head_reads : (reader : Reader) (n : ℕ) (lines : List (List ℕ)) → NoneEnds 
     → head_from false reader n lines ≡ described (n + length lines) [] (read_lines reader lines)
 head_reads (Err fault) n lines none = ap (λ r. described (n + length lines) [] r) (sym (fault_stays fault lines))
 head_reads (Ok reading) n [] none = ap (λ k. described k [] (finished (Ok reading))) (omega arith)
-head_reads (Ok reading) n (line ∷ lines) none =
-    rw none.0 (head_reads (after_line (Ok reading) line) (n + 1) lines none.1
-    ∙ ap (λ k. described k [] (read_lines (after_line (Ok reading) line) lines)) (omega arith))
+head_reads (Ok reading) n (line ∷ lines) none = search (rules, described, read_lines, head_reads (after_line (Ok reading) line) (n + 1) lines none.1)
 
 pub reading_is_one : (drivers : ℕ) (text : List ℕ) → NoneEnds (lines_of text)
     → head_from false (new_reader drivers) 1 (lines_of text) ≡ described (1 + length (lines_of text)) [] (read_of drivers text)

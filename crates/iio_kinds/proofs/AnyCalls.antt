@@ -1,5 +1,6 @@
 -- What the calls of a device of any kind are at each kind.
-use Rattle.std.proofs.Common.{◌≡◌, ℕ, ◌-◌, Bool, true, false, Option, Some, None, IfSome, Result, refl, sym, subst, ◌∙◌, cond, List, [], ◌∷◌, map, ap}
+use Rattle.std.proofs.Common.{◌≡◌, ℕ, ◌-◌, Bool, true, false, Option, Some, None, IfSome, Result, refl, sym, subst, ◌∙◌, cond, List, [], ◌∷◌, map, ap, arith, rules}
+use Rattle.std.proofs.lemmas.Grind.{common_steps}
 use Rattle.std.specs.Prelude.{◌&&◌}
 use Rattle.std.specs.List.{list_any}
 use Rattle.iio_desc.specs.Description.{DeviceHead}
@@ -14,48 +15,30 @@ use Rattle.iio_core.specs.Moves.{Capture, is_due}
 use Rattle.iio_device.specs.declared.handling.Handled.TheVariants.{Idle}
 use Rattle.iio_core.specs.declared.became.Became.TheVariants.{Asked}
 use Rattle.iio_derive.specs.declared.members.Membership.{Membership}
-use Rattle.iio_output.specs.Out.{WriterRecord}
 use Rattle.iio_sensor.specs.Driver.{Driver}
 use Rattle.iio_device.specs.declared.plug.Plug.{Plug}
 use Rattle.iio_kinds.specs.declared.any_device.AnyDevice.{AnyDevice}
 use Rattle.iio_kinds.specs.declared.any_device.AnyDevice.TheVariants as any
 use Rattle.iio_kinds.specs.declared.in_device.InDevice.{InDevice}
 use Rattle.iio_kinds.specs.declared.mean_device.MeanSeat.{MeanSeat}
-use Rattle.iio_kinds.specs.declared.out_device.OutDevice.{OutDevice}
 use Rattle.iio_kinds.specs.declared.seat.Seat.{Seat}
 use Rattle.iio_kinds.specs.Faults.{Joining, JoinsAny, MayHaveInner}
 use Rattle.iio_kinds.specs.Handling.{IsTakenWhole, entry_capture, entry_station, entry_became, unless_ended}
 use Rattle.iio_kinds.specs.MeanStation.{mean_member}
-use Rattle.iio_kinds.specs.OutStation.{out_station, writers_of}
 use Rattle.iio_kinds.specs.Station.{any_station}
-
--- only an input device has inner members
-pub none_inner : (d : DeviceHead) (mask capacity : ℕ) (st : Station) (inner : Option ℕ) → is_input d.kind ≡ false
-    → IfSome inner (MayHaveInner d mask capacity st) → inner ≡ None
-none_inner d mask capacity st None other h = refl
-none_inner d mask capacity st (Some j) other h = absurd (let own : is_input d.kind ≡ true = h.input in let both : true ≡ false = sym own ∙ other in cc)
-
--- only the scans of an output device's member come round again
-pub never_cyclic : (cyclic : Bool) → (cyclic && true) ≡ false → cyclic ≡ false
-never_cyclic true e = e
-never_cyclic false e = refl
 
 pub joins_once : (w : Joining) (result : Result Seat No) (old new : Station) (trigger trigger' : State) → (w.cyclic && true) ≡ false
     → JoinsAny (record w { cyclic = false }) result old new trigger trigger' → JoinsAny w result old new trigger trigger'
-joins_once w result old new trigger trigger' once joins =
-    subst (λ (b : Bool). JoinsAny (record w { cyclic = b }) result old new trigger trigger') (sym (never_cyclic w.cyclic once)) joins
+joins_once w result old new trigger trigger' once joins = search rules
 
 pub joins_output : (d : DeviceHead) (st : Station) (w : Joining) (result : Result Seat No) (old new : Station) (trigger trigger' : State)
     → is_input d.kind ≡ false → IfSome w.inner (MayHaveInner d w.mask.bits w.capacity st)
     → JoinsAny (record w { inner = None }) result old new trigger trigger' → JoinsAny w result old new trigger trigger'
-joins_output d st w result old new trigger trigger' other may joins =
-    subst (λ (o : Option ℕ). JoinsAny (record w { inner = o }) result old new trigger trigger')
-    (sym (none_inner d w.mask.bits w.capacity st w.inner other may)) joins
+joins_output d st w result old new trigger trigger' other may joins = search rules
 
 -- a choice between two that are the same
 pub either : {A : Type 0} (b : Bool) (x : A) → cond b x x ≡ x
-either true x = refl
-either false x = refl
+either b x = search rules
 
 none_whole : (shape : ShapeRecord) (o : Option Capture) (members : List Member) (scan : List ℕ) → o ≡ None → IsTakenWhole shape o members scan
 none_whole shape o members scan none = subst (λ (x : Option Capture). IsTakenWhole shape x members scan) (sym none) tt
@@ -71,14 +54,12 @@ nothing_stays kind ended shape st = sym (either ended st)
 -- an output device makes no capture
 pub output_whole : (e : Handed) (ended : Bool) (shape : ShapeRecord) (st : Station) (members : List Member) (scan : List ℕ)
     → IsTakenWhole shape (entry_capture Output (Some e) ended shape st) members scan
-output_whole e ended shape st members scan =
-    none_whole shape _ members scan (ap (λ (o : Option Capture). unless_ended ended None o) (either (is_due e st) None) ∙ either ended None)
+output_whole e ended shape st members scan = search rules
 
 -- an averaging device makes no capture
 pub average_whole : (base window : ℕ) (e : Handed) (ended : Bool) (shape : ShapeRecord) (st : Station) (members : List Member) (scan : List ℕ)
     → IsTakenWhole shape (entry_capture (Average base window) (Some e) ended shape st) members scan
-average_whole base window e ended shape st members scan =
-    none_whole shape _ members scan (ap (λ (o : Option Capture). unless_ended ended None o) (either (is_due e st) None) ∙ either ended None)
+average_whole base window e ended shape st members scan = search rules
 
 -- the entries of an averaging device change nothing
 pub average_stays : (base window : ℕ) (e : Handed) (ended : Bool) (shape : ShapeRecord) (st : Station)
@@ -89,14 +70,6 @@ pub average_idle : (base window : ℕ) (e : Handed) (ended : Bool) (st : Station
     → Some (Asked Idle) ≡ entry_became (Average base window) (Some e) ended st
 average_idle base window e ended st = sym (ap (λ (x : Became). Some x) (either ended (Asked Idle)))
 
--- an output device has no inner member
-pub out_inner : (j : ℕ) (x : OutDevice) → false ≡ list_any (is_inner_of j) (out_station x).members
-out_inner j x = by x.out.writer
-  where
-    by : (o : Option WriterRecord) → false ≡ list_any (is_inner_of j) (writers_of (x.starts - 1) x.out.underruns o)
-    by None = refl
-    by (Some w) = refl
-
 -- an averaging device has no inner member
 pub mean_inner : (j : ℕ) (slots : List (Option Membership)) (seats : List MeanSeat) → false ≡ list_any (is_inner_of j) (map (mean_member slots) seats)
 mean_inner j slots [] = refl
@@ -104,6 +77,4 @@ mean_inner j slots (s ∷ ss) = mean_inner j slots ss
 
 pub plain_inner : {X : Type 0} {V : X → Type 0} (drive : Plug X V → Driver) (j : ℕ) (d : AnyDevice X V) → ((x : InDevice X V) → d ≡ any.Input x → ⊥)
     → false ≡ list_any (is_inner_of j) (any_station drive d).members
-plain_inner drive j (any.Input d) other = absurd (other d refl)
-plain_inner drive j (any.Output x) other = out_inner j x
-plain_inner drive j (any.Average a) other = mean_inner j a.average.seats a.seats.items
+plain_inner drive j d other = grind (arith, common_steps, mean_inner)

@@ -1,8 +1,7 @@
 -- What a connection's call keeps of an input device, and what its queue holds.
-use Rattle.std.proofs.Common.{◌≡◌, ℕ, Bool, true, false, List, [], ◌∷◌, map, length, Option, Some, None, IfSome, refl, sym, ap, ◌∙◌, arith, cond, option_map}
-use Rattle.std.specs.Prelude.{◌==◌, ◌&&◌, ◌||◌, unwrap_or}
+use Rattle.std.proofs.Common.{◌≡◌, ℕ, Bool, true, false, List, [], ◌∷◌, map, length, Option, IfSome, refl, ◌∙◌, cond, option_map, rules}
+use Rattle.std.specs.Prelude.{◌==◌, unwrap_or}
 use Rattle.std.specs.List.{AllByRecursion, IsDistinct}
-use Rattle.std.proofs.lemmas.Bool.Decides.{nat_tests}
 use Rattle.std.specs.Option.{option_map_or}
 use Rattle.iio_text.specs.declared.values.Fixed.{Fixed}
 use Rattle.iio_attr.specs.declared.attributes.Attr.{Attr}
@@ -11,19 +10,14 @@ use Rattle.iio_device.specs.declared.membership.Membership.{Membership}
 use Rattle.iio_device.specs.Device.{DeviceView, after_raw, after_trigger, after_write, is_idle}
 use Rattle.iio_device.specs.Members.{member_of as membership_of}
 use Rattle.iio_device.specs.Site.{Site, sampled}
-use Rattle.iio_core.specs.Machine.{Member, MemberId, is_id_of, member_in, scans_in}
-use Rattle.iio_kinds.specs.Acting.{KeepsCaptures, has_member, is_member, lost_in}
+use Rattle.iio_core.specs.Machine.{Member, MemberId, member_in, scans_in}
+use Rattle.iio_kinds.specs.Acting.{KeepsCaptures, has_member, lost_in}
 use Rattle.iio_kinds.specs.Station.{member_of}
 
 -- ---- what a call keeps of a device
 
-pub keeps_along : (d x d' : DeviceView Queue) → KeepsCaptures d x → d' ≡ x → KeepsCaptures d d'
-keeps_along d x d' k e = rw e k
-
 site_keeps : (site : Site ℕ) (b : Bool) (d d' : DeviceView Queue) → d' ≡ cond b (record d { site = site }) d → KeepsCaptures d d'
-site_keeps site true d d' e =
-    keeps_along d (record d { site = site }) d' (record { device = record { name = refl; number = refl; shape = refl }; captures = refl }) e
-site_keeps site false d d' e = keeps_along d d d' (record { device = record { name = refl; number = refl; shape = refl }; captures = refl }) e
+site_keeps site b d d' e = search rules
 
 pub trigger_keeps : (trigger : Option ℕ) (d d' : DeviceView Queue) → d' ≡ after_trigger trigger d → KeepsCaptures d d'
 trigger_keeps trigger d d' e = site_keeps _ (is_idle d) d d' e
@@ -47,37 +41,18 @@ module _ {A : Type 0} (field : Member → A) (none : A) where
       → option_map_or field (member_in id (map member_of ms)) none
       ≡ option_map_or (λ (m : Membership Queue). field (member_of m)) (membership_of id.number ms) none
   told_found id [] under = refl
-  told_found id (m ∷ ms) under = by (m.number == id.number) under (told_found id ms)
-    where
-      by : (b : Bool) → IsUnder id (cond b (Some m) (membership_of id.number ms))
-          → (IsUnder id (membership_of id.number ms)
-          → option_map_or field (member_in id (map member_of ms)) none
-          ≡ option_map_or (λ (m : Membership Queue). field (member_of m)) (membership_of id.number ms) none)
-          → option_map_or field (cond (b && (m.mask.bits == id.mask)) (Some (member_of m)) (member_in id (map member_of ms))) none
-          ≡ option_map_or (λ (m : Membership Queue). field (member_of m)) (cond b (Some m) (membership_of id.number ms)) none
-      by true under h = rw under refl
-      by false under h = h under
+  told_found id (m ∷ ms) under = search (rules, told_found id ms)
 
   -- nothing is told of a member that isn't there
   pub told_absent : (id : MemberId) (ms : List (Membership Queue)) → has_member id ms ≡ false
       → option_map_or field (member_in id (map member_of ms)) none ≡ none
   told_absent id [] e = refl
-  told_absent id (m ∷ ms) e = by (is_member id m) e (told_absent id ms)
-    where
-      by : (b : Bool) → (b || has_member id ms) ≡ false → (has_member id ms ≡ false → option_map_or field (member_in id (map member_of ms)) none ≡ none)
-          → option_map_or field (cond b (Some (member_of m)) (member_in id (map member_of ms))) none ≡ none
-      by true e h = absurd (cc)
-      by false e h = h e
+  told_absent id (m ∷ ms) e = search (rules, told_absent id ms)
 
 -- the scans of a member, by the member
 pub scans_told : (id : MemberId) (xs : List Member) → scans_in id xs ≡ option_map_or (λ (x : Member). x.scans) (member_in id xs) []
 scans_told id [] = refl
-scans_told id (x ∷ xs) = by (is_id_of id x) (scans_told id xs)
-  where
-    by : (b : Bool) → scans_in id xs ≡ option_map_or (λ (x : Member). x.scans) (member_in id xs) []
-        → cond b x.scans (scans_in id xs) ≡ option_map_or (λ (x : Member). x.scans) (cond b (Some x) (member_in id xs)) []
-    by true h = refl
-    by false h = h
+scans_told id (x ∷ xs) = search (rules, scans_told id xs)
 
 pub scans_found : (id : MemberId) (ms : List (Membership Queue)) → IsUnder id (membership_of id.number ms)
     → scans_in id (map member_of ms) ≡ option_map_or (λ (m : Membership Queue). m.tail.scans) (membership_of id.number ms) []
@@ -93,44 +68,19 @@ lost_absent id ms e = told_absent (λ (x : Member). x.lost) 0 id ms e
 passed_on : (id : MemberId) (m : Membership Queue) (ms : List (Membership Queue))
     → AllByRecursion (λ y. (m.number == y) ≡ false) (map (λ (m : Membership Queue). m.number) ms) → (m.number == id.number) ≡ true → has_member id ms ≡ false
 passed_on id m [] apart own = refl
-passed_on id m (x ∷ xs) apart own =
-    let other : (x.number == id.number) ≡ false = (let differ = apart.0 in grind (arith, nat_tests)) in
-    rw (other, passed_on id m xs apart.1 own) refl
+passed_on id m (x ∷ xs) apart own = search (rules, passed_on id m xs apart.1 own)
 
 pub under_is : (id : MemberId) (ms : List (Membership Queue)) → IsDistinct (λ a b. a == b) (map (λ (m : Membership Queue). m.number) ms)
     → has_member id ms ≡ true → IsUnder id (membership_of id.number ms)
 unfolding IsDistinct
 under_is id [] distinct e = tt
-under_is id (m ∷ ms) distinct e = by (m.number == id.number) refl e (under_is id ms distinct.1)
-  where
-    own_mask : (c : Bool) → (c || has_member id ms) ≡ true → has_member id ms ≡ false → c ≡ true
-    own_mask true e none = refl
-    own_mask false e none = absurd (cc)
-
-    by : (b : Bool) → (m.number == id.number) ≡ b → ((b && (m.mask.bits == id.mask)) || has_member id ms) ≡ true
-        → (has_member id ms ≡ true → IsUnder id (membership_of id.number ms))
-        → IsUnder id (cond b (Some m) (membership_of id.number ms))
-    by true own e h = own_mask (m.mask.bits == id.mask) e (passed_on id m ms distinct.0 own)
-    by false own e h = h e
-
-waiting_by : (o : Option (Membership Queue))
-    → unwrap_or (option_map (λ (m : Membership Queue). length m.tail.scans) o) 0 ≡ length (option_map_or (λ (m : Membership Queue). m.tail.scans) o [])
-waiting_by None = refl
-waiting_by (Some m) = refl
-
-lost_by : (o : Option (Membership Queue))
-    → unwrap_or (option_map (λ (m : Membership Queue). m.tail.lost) o) 0 ≡ option_map_or (λ (m : Membership Queue). m.tail.lost) o 0
-lost_by None = refl
-lost_by (Some m) = refl
+under_is id (m ∷ ms) distinct e = search (rules, passed_on, under_is id ms distinct.1)
 
 pub waiting_is : (id : MemberId) (w r : ℕ) (o : Option ℕ) (ms : List (Membership Queue)) → IsUnder id (membership_of id.number ms)
     → o ≡ option_map (λ (m : Membership Queue). length m.tail.scans) (membership_of id.number ms) → w ≡ unwrap_or o 0 → r ≡ w
     → r ≡ length (scans_in id (map member_of ms))
-waiting_is id w r o ms under e u s =
-    s ∙ u ∙ ap (λ (x : Option ℕ). unwrap_or x 0) e ∙ waiting_by (membership_of id.number ms)
-    ∙ ap (λ (q : List (List ℕ)). length q) (sym (scans_found id ms under))
+waiting_is id w r o ms under e u s = search (rules, scans_found)
 
 pub lost_is : (id : MemberId) (r : ℕ) (o : Option ℕ) (ms : List (Membership Queue)) → IsUnder id (membership_of id.number ms)
     → o ≡ option_map (λ (m : Membership Queue). m.tail.lost) (membership_of id.number ms) → r ≡ unwrap_or o 0 → r ≡ lost_in id (map member_of ms)
-lost_is id r o ms under e u =
-    u ∙ ap (λ (x : Option ℕ). unwrap_or x 0) e ∙ lost_by (membership_of id.number ms) ∙ sym (told_found (λ (x : Member). x.lost) 0 id ms under)
+lost_is id r o ms under e u = search (rules, told_found)

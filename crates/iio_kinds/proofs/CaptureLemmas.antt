@@ -1,14 +1,10 @@
 -- The values that a driver gives are in the ranges of their channels' types.
-use Rattle.std.proofs.Common.{◌≡◌, ℕ, zero, suc, ◌+◌, ◌<◌, ◌≤◌, List, [], ◌∷◌, ◌++◌, length, take, drop, refl, sym, ap, subst, ◌∙◌, inl, inr, arith, ℤ, ◌≤ℤ◌, ◌+ℤ◌, All, append_assoc, append-nil}
+use Rattle.std.proofs.Common.{◌≡◌, ℕ, zero, suc, ◌+◌, ◌<◌, List, [], ◌++◌, length, take, drop, refl, sym, ap, subst, ◌∙◌, inl, inr, arith, ℤ, ◌+ℤ◌, All, append_assoc, append-nil, rules}
 use Rattle.std.specs.List.{AllByRecursion}
-use Rattle.std.specs.Int.{int_max, int_min}
 use Rattle.std.proofs.lemmas.Bool.{cases_lt}
-use Rattle.std.proofs.lemmas.Int.{ints, clamps}
 use Rattle.std.proofs.lemmas.List.{drop_at, take_at}
 use Rattle.std.proofs.lemmas.List.Elements.{All-from_recursion}
-use Rattle.iio_scan_type.specs.declared.Sign.{Sign}
-use Rattle.iio_scan_type.specs.declared.Sign.TheVariants.{Signed, Unsigned}
-use Rattle.iio_scan_type.specs.Format.{Format, IsInProfile, IsInRange, greatest_by, greatest_of, least_by, least_of, saturated}
+use Rattle.iio_scan_type.specs.Format.{Format, IsInProfile, IsInRange, saturated}
 use Rattle.iio_layout.specs.Laws.{count_is, length-elements_below, length-values_below, length-values_by}
 use Rattle.iio_layout.specs.Layout.{format_at}
 use Rattle.iio_layout.specs.Scan.{elements_below, first_value, values_at, values_below, values_by}
@@ -17,16 +13,9 @@ use Rattle.iio_derive.specs.ReadBack.{IsCapture}
 use Rattle.iio_sensor.specs.Driver.{Driver, value_of, values_of}
 use Rattle.iio_kinds.proofs.SeatLemmas.{all_push}
 
-ends_ordered : (s : Sign) (bits : ℕ) → least_by s bits ≤ℤ greatest_by s bits
-ends_ordered Unsigned bits = omega (arith, ints)
-ends_ordered Signed bits = omega (arith, ints)
-
 -- a value that was set to the nearer end of a range is in it
 saturated_range : (f : Format) (z : ℤ) → IsInRange f (saturated f z)
-saturated_range f z = by (least_of f) (greatest_of f) (ends_ordered f.sign f.realbits)
-  where
-    by : (low high : ℤ) → low ≤ℤ high → (low ≤ℤ int_max low (int_min z high)) × (int_max low (int_min z high) ≤ℤ high)
-    by low high order = (omega (arith, ints, clamps), omega (arith, ints, clamps))
+saturated_range f z = search rules
 
 -- what comes after a channel's values
 abbrev Split : List Format → (ℕ → ℕ → ℤ) → ℕ → ℕ → Type 0

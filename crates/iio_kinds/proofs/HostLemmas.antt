@@ -1,5 +1,5 @@
 -- The trigger by which a member joins, or why it can't join by it.
-use Rattle.std.proofs.Common.{◌≡◌, ℕ, true, List, slice_get, Option, Some, None, Result, Ok, Err, refl, ap, ◌∙◌}
+use Rattle.std.proofs.Common.{◌≡◌, ℕ, true, List, slice_get, Option, Some, None, Result, Ok, Err, refl, ap, ◌∙◌, rules}
 use Rattle.std.specs.Prelude.{⊤}
 use Rattle.std.specs.Option.{option_map_or}
 use Rattle.iio_base.specs.Refusals.{first_refusal, unless_refused}
@@ -13,12 +13,10 @@ abbrev pub joining_of : Option JoinFault → Result ⊤ JoinFault
 joining_of o = unless_refused tt o
 
 pub err_is : (o : Option JoinFault) (f : JoinFault) → Err f ≡ joining_of o → o ≡ Some f
-err_is None f e = absurd (cc)
-err_is (Some x) f e = cc
+err_is o f e = search rules
 
 pub ok_is : (o : Option JoinFault) (u : ⊤) → Ok u ≡ joining_of o → o ≡ None
-ok_is None u e = refl
-ok_is (Some x) u e = absurd (cc)
+ok_is o u e = search rules
 
 module _ (states : List State) (d : DeviceView Queue) (mask t : ℕ) (own : d.site.trigger ≡ Some t) where
   lacks_is : (o : Option State) → slice_get states t ≡ o → lacks_place d.number states d.site.trigger ≡ option_map_or (has_no_place d.number) o true

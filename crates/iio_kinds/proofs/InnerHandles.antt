@@ -1,23 +1,22 @@
 -- What the handling of an entry at an input device makes of its inner members, and of the scan that they took.
-use Rattle.std.proofs.Common.{◌≡◌, ℕ, ◌+◌, ◌-◌, ◌^◌, Bool, true, false, List, [], ◌∷◌, map, length, Option, Some, None, refl, sym, ap, subst, ◌∙◌, arith, ℤ, FitsSigned, w64}
-use Rattle.std.specs.Prelude.{◌==◌, ◌||◌, is_some, nat_lt}
+use Rattle.std.proofs.Common.{◌≡◌, ℕ, ◌-◌, Bool, true, false, List, [], ◌∷◌, map, length, Option, Some, refl, sym, subst, ◌∙◌, arith, ℤ, FitsSigned, w64, rules}
+use Rattle.std.specs.Prelude.{is_some}
 use Rattle.std.specs.List.{AllByRecursion}
 use Rattle.std.proofs.lemmas.Int.{ints}
 use Rattle.iio_scan_type.specs.declared.Endian.{Endian}
 use Rattle.iio_scan_type.specs.Format.{IsInRange, stamp_format}
 use Rattle.iio_desc.specs.Kind.{Input}
-use Rattle.iio_layout.specs.Scan.{scan_of}
 use Rattle.iio_layout.specs.Shape.{ShapeRecord}
-use Rattle.iio_derive.specs.Window.{full_mask, no_window}
+use Rattle.iio_derive.specs.Window.{full_mask}
 use Rattle.iio_kfifo.specs.Queue.{Queue}
 use Rattle.iio_sensor.specs.Driver.{ask_fails, values_of}
 use Rattle.iio_trigger.specs.Trigger.{Handed}
 use Rattle.iio_device.specs.declared.handling.Handled.{Handled}
-use Rattle.iio_device.specs.declared.handling.Handled.TheVariants.{Captured, Fault, Idle}
+use Rattle.iio_device.specs.declared.handling.Handled.TheVariants.{Captured}
 use Rattle.iio_device.specs.declared.membership.Membership.{Membership}
 use Rattle.iio_device.specs.Site.{is_empty}
 use Rattle.iio_core.specs.Machine.{Member, Station}
-use Rattle.iio_core.specs.Moves.{asked_once, offered_to, Capture, is_due}
+use Rattle.iio_core.specs.Moves.{offered_to, Capture, is_due}
 use Rattle.iio_core.specs.declared.became.Became.TheVariants.{Asked}
 use Rattle.iio_kinds.specs.declared.in_device.Inner.{Inner}
 use Rattle.iio_kinds.specs.Handling.{IsTakenWhole, entry_capture, entry_station, has_inner, entry_became}
@@ -25,7 +24,7 @@ use Rattle.iio_kinds.specs.Inner.{AreThere, AreWhole, HasInners, inner_at, with_
 use Rattle.iio_kinds.specs.Station.{member_of}
 use Rattle.iio_kinds.specs.Taking.{IsTakenOf, with_taken}
 use Rattle.iio_kinds.proofs.CaptureLemmas.{values_capture}
-use Rattle.iio_kinds.proofs.InnerLemmas.{AreIdleTold, empty_named, has_number, idle_told, named, there_by, there_told, told_idle, told_there}
+use Rattle.iio_kinds.proofs.InnerLemmas.{AreIdleTold, idle_told, named, there_by, there_told, told_idle, told_there}
 use Rattle.iio_kinds.proofs.InnerTakes.{IsPlain, idle_again, offered_number, waiting_all}
 use Rattle.iio_kinds.proofs.TakeAllLemmas.{number_kept}
 
@@ -46,114 +45,55 @@ pub record HasCaptured (shape : ShapeRecord) (e : Handed) (ended : Bool) (st : S
 
 module _ (shape : ShapeRecord) (e : Handed) where
   pub captured_by : (n : ℕ) (ended : Bool) (st : Station) → Some (Asked (Captured n)) ≡ entry_became Input (Some e) ended st → HasCaptured shape e ended st
-  captured_by n ended st answer = by ended (is_due e st) (ask_fails st.site.driver) refl refl refl answer
-    where
-      by : (a b f : Bool) → ended ≡ a → is_due e st ≡ b → ask_fails st.site.driver ≡ f → Some (Asked (Captured n)) ≡ entry_became Input (Some e) a st
-          → HasCaptured shape e ended st
-      by true b f last due fails answer = absurd (cc)
-      by false false f last due fails answer =
-          absurd (let idle : entry_became Input (Some e) false st ≡ Some (Asked Idle) = rw due refl in let both = answer ∙ idle in cc)
-      by false true true last due fails answer =
-          absurd (let fault : entry_became Input (Some e) false st ≡ Some (Asked Fault) = rw (due, fails) refl in let both = answer ∙ fault in cc)
-      by false true false last due fails answer = record { goes_on = last; due = due; answers = fails }
+  captured_by n ended st answer = search rules
 
   -- what it makes of the members
   pub captured_members : (ended : Bool) (st new : Station) → HasCaptured shape e ended st → new ≡ entry_station Input (Some e) ended shape st
       → new.members ≡ map (offered_to shape (taken_by shape e st)) st.members
-  captured_members ended st new h is =
-      let made : entry_station Input (Some e) false shape st
-      ≡ record (asked_once shape e.t st)
-      { captures = st.captures + 1; members = map (offered_to shape (taken_by shape e st)) st.members; window = no_window } =
-      rw (h.due, h.answers) refl in
-      ap (λ (x : Station). x.members) (is ∙ ap (λ (b : Bool). entry_station Input (Some e) b shape st) h.goes_on ∙ made)
+  captured_members ended st new h is = search rules
 
   -- which capture it is
   pub captured_named : (inners : List Inner) (ended : Bool) (st : Station) → HasCaptured shape e ended st
       → entry_capture Input (Some e) ended shape (named inners st) ≡ Some (taken_by shape e st)
-  captured_named inners ended st h =
-      let same : is_due e (named inners st) ≡ is_due e st = rw (empty_named inners st.members) refl in
-      let due : is_due e (named inners st) ≡ true = same ∙ h.due in
-      ap (λ (b : Bool). entry_capture Input (Some e) b shape (named inners st)) h.goes_on ∙ rw (due, h.answers) refl
-
-  -- if the answer is no capture, none is made, and the members stay
-  pub idle_capture : (r : Handled) (inners : List Inner) (ended : Bool) (st : Station) → ((n : ℕ) → r ≡ Captured n → ⊥)
-      → Some (Asked r) ≡ entry_became Input (Some e) ended st → entry_capture Input (Some e) ended shape (named inners st) ≡ None
-  idle_capture r inners ended st none answer = by ended (is_due e st) (ask_fails st.site.driver) refl refl answer
-    where
-      same : is_due e (named inners st) ≡ is_due e st
-      same = rw (empty_named inners st.members) refl
-
-      by : (a b f : Bool) → is_due e st ≡ b → ask_fails st.site.driver ≡ f → Some (Asked r) ≡ entry_became Input (Some e) a st
-          → entry_capture Input (Some e) a shape (named inners st) ≡ None
-      by true b f due fails is = refl
-      by false false f due fails is = rw (same ∙ due) refl
-      by false true true due fails is = rw (same ∙ due, fails) refl
-      by false true false due fails is =
-          absurd (none (length st.members)
-          (let made : entry_became Input (Some e) false st ≡ Some (Asked (Captured (length st.members))) = rw (due, fails) refl in let both = is ∙ made in cc))
+  captured_named inners ended st h = search rules
 
   pub idle_members : (r : Handled) (ended : Bool) (st new : Station) → ((n : ℕ) → r ≡ Captured n → ⊥)
       → Some (Asked r) ≡ entry_became Input (Some e) ended st → new ≡ entry_station Input (Some e) ended shape st → new.members ≡ st.members
-  idle_members r ended st new none answer is = ap (λ (x : Station). x.members) is ∙ by ended (is_due e st) (ask_fails st.site.driver) refl refl answer
-    where
-      by : (a b f : Bool) → is_due e st ≡ b → ask_fails st.site.driver ≡ f → Some (Asked r) ≡ entry_became Input (Some e) a st
-          → (entry_station Input (Some e) a shape st).members ≡ st.members
-      by true b f due fails is = refl
-      by false false f due fails is = rw due refl
-      by false true true due fails is = rw (due, fails) refl
-      by false true false due fails is =
-          absurd (none (length st.members)
-          (let made : entry_became Input (Some e) false st ≡ Some (Asked (Captured (length st.members))) = rw (due, fails) refl in let both = is ∙ made in cc))
+  idle_members r ended st new none answer is = search rules
 
 -- ---- the inner members afterwards
 
 module _ (shape shape' : ShapeRecord) (inners : List Inner) (room : List ℕ) (ms ms' : List (Membership Queue)) (c : Capture)
     (same : shape' ≡ shape) (sound : HasInners shape ms inners room) (told : map member_of ms' ≡ map (offered_to shape c) (map member_of ms)) where
   pub offered_there : AreThere ms' inners
-  offered_there =
-      told_there ms' inners (there_by (map member_of ms) (map member_of ms') inners
-      (λ i has. ap (λ (xs : List Member). has_number i xs) told ∙ offered_number shape c inners i (map member_of ms) ∙ has) (there_told ms inners sound.there))
+  offered_there = search (rules, told_there, there_by, offered_number, there_told)
 
   -- each still has its number and its mask
   offered_keeps : (x : Member) → ((offered_to shape c x).number ≡ x.number) × ((offered_to shape c x).mask ≡ x.mask)
-  offered_keeps x = by (nat_lt (length x.scans) x.capacity) refl
-    where
-      by : (b : Bool) → nat_lt (length x.scans) x.capacity ≡ b → ((offered_to shape c x).number ≡ x.number) × ((offered_to shape c x).mask ≡ x.mask)
-      by true f = rw f (refl, refl)
-      by false f = rw f (refl, refl)
+  offered_keeps x = search rules
 
   abbrev AreWholeTold : List Member → Type 0
   AreWholeTold xs = AllByRecursion (λ (x : Member). is_some (inner_at inners x.number) ≡ true → x.mask ≡ full_mask shape) xs
 
   whole_offered : (xs : List Member) → AreIdleTold shape inners xs → AreWholeTold (map (offered_to shape c) xs)
   whole_offered [] idle = tt
-  whole_offered (x ∷ xs) idle = (
-    (λ e. let keeps = offered_keeps x in keeps.1
-        ∙ (idle.0 (ap (λ (n : ℕ). is_some (inner_at inners n)) (sym keeps.0) ∙ e)).whole),
-    whole_offered xs idle.1,
-  )
+  whole_offered (x ∷ xs) idle = search (rules, offered_keeps, inner_at, whole_offered xs idle.1)
 
   whole_back : (ks : List (Membership Queue)) → AreWholeTold (map member_of ks) → AreWhole shape inners ks
   whole_back [] all = tt
   whole_back (k ∷ ks) all = (all.0, whole_back ks all.1)
 
   pub offered_whole : AreWhole shape' inners ms'
-  offered_whole =
-      subst (λ (s : ShapeRecord). AreWhole s inners ms') (sym same)
-      (whole_back ms' (subst AreWholeTold (sym told) (whole_offered (map member_of ms) (idle_told shape inners ms sound.idle))))
+  offered_whole = search (rules, whole_back, whole_offered, idle_told)
 
   -- after each has taken its scan, what held holds again
   pub taken_facts : (shape'' : ShapeRecord) (ms'' : List (Membership Queue)) (room' : List ℕ) → shape'' ≡ shape
       → map member_of ms'' ≡ map (with_taken inners) (map member_of ms') → length room' ≡ length room → HasInners shape'' ms'' inners room'
   taken_facts shape'' ms'' room' same'' told'' sized =
-      let all : map member_of ms'' ≡ map (with_taken inners) (map (offered_to shape c) (map member_of ms)) =
-      told'' ∙ ap (λ (xs : List Member). map (with_taken inners) xs) told in
+      let all : map member_of ms'' ≡ map (with_taken inners) (map (offered_to shape c) (map member_of ms)) = cc in
       subst (λ (s : ShapeRecord). HasInners s ms'' inners room') (sym same'') (record {
-        idle = told_idle shape inners ms'' (subst (AreIdleTold shape inners) (sym all)
-            (idle_again shape c inners (map member_of ms) (idle_told shape inners ms sound.idle) (members_plain ms)));
-        there = told_there ms'' inners (there_by (map member_of ms) (map member_of ms'') inners
-            (λ i has. ap (λ (xs : List Member). has_number i xs) all ∙ number_kept inners i (map (offered_to shape c) (map member_of ms))
-            ∙ offered_number shape c inners i (map member_of ms) ∙ has) (there_told ms inners sound.there));
+        idle = search (rules, told_idle, idle_again, idle_told, members_plain);
+        there = search (rules, told_there, there_by, number_kept, offered_number, there_told);
         once = sound.once;
         apart = sound.apart;
         roomy = λ some. sized ∙ sound.roomy some;
@@ -167,8 +107,7 @@ none_inner [] = refl
 none_inner (x ∷ xs) = none_inner xs
 
 some_inner : (inners : List Inner) (xs : List Member) → has_inner (map (with_inner_name inners) xs) ≡ true → is_empty inners ≡ false
-some_inner [] xs e = absurd (let both : true ≡ false = sym e ∙ none_inner xs in cc)
-some_inner (i ∷ is) xs e = refl
+some_inner inners xs e = search (rules, none_inner)
 
 -- a moment of 64 bits is one of a timestamp
 moment_range : (t : ℤ) → FitsSigned w64 t → (endian : Endian) → IsInRange (stamp_format endian) t
@@ -182,11 +121,7 @@ pub room_whole : (shape : ShapeRecord) (e : Handed) (inners : List Inner) (room 
 room_whole shape e inners room room' ended st ms ms' sound of h told taken sized fits =
     subst (λ (o : Option Capture). IsTakenWhole shape o (map (with_inner_name inners) st.members) room') (sym (captured_named shape e inners ended st h))
     (λ has. let some : is_empty inners ≡ false = some_inner inners st.members has in record {
-      is = taken (scan_of shape (full_mask shape) (taken_by shape e st).values e.t)
-          (subst (λ (xs : List Member). AllByRecursion
-          (λ (x : Member). is_some (inner_at inners x.number) ≡ true → x.scans ≡ scan_of shape (full_mask shape) (taken_by shape e st).values e.t ∷ []) xs)
-          (sym told)
-          (waiting_all shape (taken_by shape e st) inners (map member_of ms) (idle_told shape inners ms sound.idle) (members_plain ms))) some;
+      is = search (rules, inner_at, waiting_all, idle_told, members_plain);
       size = sized ∙ sound.roomy some;
       values = values_capture shape st.site.driver e.t sound.types;
       moment = moment_range e.t fits;
@@ -195,6 +130,4 @@ room_whole shape e inners room room' ended st ms ms' sound of h told taken sized
 pub room_idle : (shape : ShapeRecord) (e : Handed) (r : Handled) (inners : List Inner) (room' : List ℕ) (ended : Bool) (st : Station)
     → ((n : ℕ) → r ≡ Captured n → ⊥) → Some (Asked r) ≡ entry_became Input (Some e) ended st
     → IsTakenWhole shape (entry_capture Input (Some e) ended shape (named inners st)) (map (with_inner_name inners) st.members) room'
-room_idle shape e r inners room' ended st none answer =
-    subst (λ (o : Option Capture). IsTakenWhole shape o (map (with_inner_name inners) st.members) room')
-    (sym (idle_capture shape e r inners ended st none answer)) tt
+room_idle shape e r inners room' ended st none answer = search rules

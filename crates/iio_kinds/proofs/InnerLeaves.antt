@@ -1,6 +1,6 @@
 -- The inner member of an averaging device is found, and leaves.
-use Rattle.std.proofs.Common.{◌≡◌, ℕ, ◌+◌, ◌<◌, ◌≤◌, Bool, true, false, List, [], ◌∷◌, ◌++◌, map, Option, Some, None, refl, sym, ap, subst, ◌∙◌, arith, cond, option_map}
-use Rattle.std.specs.Prelude.{◌==◌, ◌&&◌, ◌||◌, ◌≢◌, not, filter, find, is_some}
+use Rattle.std.proofs.Common.{◌≡◌, ℕ, Bool, true, false, List, [], ◌∷◌, map, Option, Some, None, refl, sym, ap, subst, ◌∙◌, arith, cond, option_map, rules}
+use Rattle.std.specs.Prelude.{◌==◌, ◌||◌, not, filter, find, is_some}
 use Rattle.std.specs.List.{AllByRecursion, IsDistinct, list_any}
 use Rattle.std.specs.Option.{option_map_or}
 use Rattle.std.proofs.lemmas.Bool.{eqb-true}
@@ -20,23 +20,12 @@ use Rattle.iio_trigger.specs.Trigger.{State}
 use Rattle.iio_kinds.specs.Places.{place_left}
 use Rattle.iio_kinds.specs.Station.{member_of}
 use Rattle.iio_kinds.proofs.InnerLemmas.{AreIdleTold, AreThereTold, empty_named, has_number, idle_told, named, there_told, told_idle, told_there}
-use Rattle.iio_kinds.proofs.SeatLemmas.{all_kept, apart_false, distinct_kept, eq_flips}
+use Rattle.iio_kinds.proofs.SeatLemmas.{all_kept, apart_false, distinct_kept}
 
 -- ---- which averaging devices have one
 
 bools : (a b : Bool) → (a ≡ true → b ≡ true) → (b ≡ true → a ≡ true) → a ≡ b
-bools true true f g = refl
-bools true false f g = sym (f refl)
-bools false true f g = g refl
-bools false false f g = refl
-
-or_left : (a b : Bool) → a ≡ true → (a || b) ≡ true
-or_left true b e = refl
-or_left false b e = absurd (cc)
-
-or_right : (a b : Bool) → b ≡ true → (a || b) ≡ true
-or_right true b e = refl
-or_right false b e = e
+bools a b f g = search rules
 
 same_number : (n : ℕ) → (n == n) ≡ true
 same_number n = grind (arith, nat_tests)
@@ -63,11 +52,7 @@ module _ (inners : List Inner) (j : ℕ) where
       by : (b : Bool) → (x.number == n) ≡ b → (b || has_number n xs) ≡ true
           → (has_number n xs ≡ true → list_any (is_inner_of j) (map (with_inner_name inners) xs) ≡ true)
           → (is_inner_of j (with_inner_name inners x) || list_any (is_inner_of j) (map (with_inner_name inners) xs)) ≡ true
-      by true own h later =
-          let at : inner_at inners x.number ≡ Some j = ap (λ (k : ℕ). inner_at inners k) (eqb-true x.number n own) ∙ e in
-          or_left (is_inner_of j (with_inner_name inners x)) (list_any (is_inner_of j) (map (with_inner_name inners) xs))
-          (ap (λ (o : Option ℕ). option_map_or (λ (i : ℕ). i == j) o false) at ∙ same_number j)
-      by false own h later = or_right (is_inner_of j (with_inner_name inners x)) (list_any (is_inner_of j) (map (with_inner_name inners) xs)) (later h)
+      by b own h later = search rules
 
   any_told : (xs : List Member) (is : List Inner) → AllByRecursion (λ (k : Inner). inner_at inners k.number ≡ Some k.average) is → AreThereTold xs is
       → list_any (λ (i : Inner). i.average == j) is ≡ true
@@ -78,30 +63,17 @@ module _ (inners : List Inner) (j : ℕ) where
       by : (b : Bool) → (i.average == j) ≡ b → (b || list_any (λ (k : Inner). k.average == j) is) ≡ true
           → (list_any (λ (k : Inner). k.average == j) is ≡ true → list_any (is_inner_of j) (map (with_inner_name inners) xs) ≡ true)
           → list_any (is_inner_of j) (map (with_inner_name inners) xs) ≡ true
-      by true q h later = named_any i.number xs there.0 (own.0 ∙ ap (λ (k : ℕ). Some k) (eqb-true i.average j q))
-      by false q h later = later h
+      by b q h later = search (rules, named_any)
 
 at_average : (inners : List Inner) (n j : ℕ) → option_map_or (λ (i : ℕ). i == j) (inner_at inners n) false ≡ true
     → list_any (λ (i : Inner). i.average == j) inners ≡ true
 at_average [] n j e = absurd (cc)
-at_average (i ∷ is) n j e = by (i.number == n) e (at_average is n j)
-  where
-    by : (b : Bool) → option_map_or (λ (k : ℕ). k == j) (option_map average_of (cond b (Some i) (find (λ (k : Inner). k.number == n) is))) false ≡ true
-        → (option_map_or (λ (k : ℕ). k == j) (inner_at is n) false ≡ true → list_any (λ (k : Inner). k.average == j) is ≡ true)
-        → ((i.average == j) || list_any (λ (k : Inner). k.average == j) is) ≡ true
-    by true f later = or_left (i.average == j) (list_any (λ (k : Inner). k.average == j) is) f
-    by false f later = or_right (i.average == j) (list_any (λ (k : Inner). k.average == j) is) (later f)
+at_average (i ∷ is) n j e = search (rules, at_average is n j)
 
 told_any : (inners : List Inner) (j : ℕ) (xs : List Member) → list_any (is_inner_of j) (map (with_inner_name inners) xs) ≡ true
     → list_any (λ (i : Inner). i.average == j) inners ≡ true
 told_any inners j [] e = absurd (cc)
-told_any inners j (x ∷ xs) e = by (is_inner_of j (with_inner_name inners x)) refl e (told_any inners j xs)
-  where
-    by : (b : Bool) → is_inner_of j (with_inner_name inners x) ≡ b → (b || list_any (is_inner_of j) (map (with_inner_name inners) xs)) ≡ true
-        → (list_any (is_inner_of j) (map (with_inner_name inners) xs) ≡ true → list_any (λ (i : Inner). i.average == j) inners ≡ true)
-        → list_any (λ (i : Inner). i.average == j) inners ≡ true
-    by true own h later = at_average inners x.number j own
-    by false own h later = later h
+told_any inners j (x ∷ xs) e = search (rules, at_average, told_any inners j xs)
 
 -- whether there is an inner member, as it is told
 pub any_inner : (inners : List Inner) (j : ℕ) (xs : List Member) → AreThereTold xs inners → AreApart (map number_of inners)
@@ -113,13 +85,7 @@ any_inner inners j xs there once = bools _ _ (any_told inners j xs inners (own_a
 module _ (j : ℕ) where
   none_kept : (xs : List Member) → list_any (is_inner_of j) xs ≡ false → filter (λ (x : Member). not (is_inner_of j x)) xs ≡ xs
   none_kept [] e = refl
-  none_kept (x ∷ xs) e = by (is_inner_of j x) e (none_kept xs)
-    where
-      by : (b : Bool) → (b || list_any (is_inner_of j) xs) ≡ false
-          → (list_any (is_inner_of j) xs ≡ false → filter (λ (y : Member). not (is_inner_of j y)) xs ≡ xs)
-          → cond (not b) (x ∷ filter (λ (y : Member). not (is_inner_of j y)) xs) (filter (λ (y : Member). not (is_inner_of j y)) xs) ≡ x ∷ xs
-      by true f later = absurd (cc)
-      by false f later = ap (λ (ys : List Member). x ∷ ys) (later f)
+  none_kept (x ∷ xs) e = search (rules, none_kept xs)
 
   none_lost : (xs : List Member) (t : Totals) → list_any (is_inner_of j) xs ≡ false → with_inner_lost j xs t ≡ t
   none_lost [] t e = refl
@@ -127,12 +93,10 @@ module _ (j : ℕ) where
     where
       by : (b : Bool) → (b || list_any (is_inner_of j) xs) ≡ false → (list_any (is_inner_of j) xs ≡ false → with_inner_lost j xs t ≡ t)
           → with_inner_lost j xs (cond b (with_lost x.lost t) t) ≡ t
-      by true f later = absurd (cc)
-      by false f later = later f
+      by b f later = search rules
 
 stays_by : (ms : List Member) (w : Window) → w ≡ window_left ms ms w
-stays_by [] w = refl
-stays_by (x ∷ xs) w = refl
+stays_by ms w = search rules
 
 pub nobody_gone : (j : ℕ) (st : Station) → list_any (is_inner_of j) st.members ≡ false → st ≡ inner_gone j st
 nobody_gone j st none =
@@ -141,22 +105,11 @@ nobody_gone j st none =
 
 pub number_any : (inners : List Inner) (j : ℕ) → is_some (number_by j inners) ≡ list_any (λ (i : Inner). i.average == j) inners
 number_any [] j = refl
-number_any (i ∷ is) j = by (i.average == j) (number_any is j)
-  where
-    by : (b : Bool) → is_some (number_by j is) ≡ list_any (λ (k : Inner). k.average == j) is
-        → is_some (option_map number_of (cond b (Some i) (find (λ (k : Inner). k.average == j) is))) ≡ (b || list_any (λ (k : Inner). k.average == j) is)
-    by true rest = refl
-    by false rest = rest
+number_any (i ∷ is) j = search (rules, number_any is j)
 
 number_none : (inners : List Inner) (j : ℕ) → number_by j inners ≡ None → list_any (λ (i : Inner). i.average == j) inners ≡ false
 number_none [] j e = refl
-number_none (i ∷ is) j e = by (i.average == j) e (number_none is j)
-  where
-    by : (b : Bool) → option_map number_of (cond b (Some i) (find (λ (k : Inner). k.average == j) is)) ≡ None
-        → (number_by j is ≡ None → list_any (λ (k : Inner). k.average == j) is ≡ false)
-        → (b || list_any (λ (k : Inner). k.average == j) is) ≡ false
-    by true f later = absurd (cc)
-    by false f later = later f
+number_none (i ∷ is) j e = search (rules, number_none is j)
 
 pub nobody_inner : (inners : List Inner) (j : ℕ) (st : Station) → number_by j inners ≡ None → AreThereTold st.members inners → AreApart (map number_of inners)
     → named inners st ≡ inner_gone j (named inners st)
@@ -166,9 +119,7 @@ nobody_inner inners j st e there once = nobody_gone j (named inners st) (sym (an
 
 all_others : (j : ℕ) (is : List Inner) → AllByRecursion (λ y. (j == y) ≡ false) (map average_of is) → inners_without j is ≡ is
 all_others j [] apart = refl
-all_others j (i ∷ is) apart =
-    let other : (i.average == j) ≡ false = eq_flips i.average j ∙ apart.0 in
-    rw other (ap (λ (xs : List Inner). i ∷ xs) (all_others j is apart.1))
+all_others j (i ∷ is) apart = search (rules, all_others j is apart.1)
 
 -- it is the only member whose averaging device is that one
 module _ (j n : ℕ) where
@@ -177,18 +128,12 @@ module _ (j n : ℕ) where
   found_in P (i ∷ is) e all = by (i.average == j) e (λ f. found_in P is f all.1)
     where
       by : (b : Bool) → option_map number_of (cond b (Some i) (find (λ (k : Inner). k.average == j) is)) ≡ Some n → (number_by j is ≡ Some n → P n) → P n
-      by true f later = let same : i.number ≡ n = cc in subst P same all.0
-      by false f later = later f
+      by b f later = search rules
 
   unfound : (is : List Inner) (k : ℕ) → AllByRecursion (λ y. (j == y) ≡ false) (map average_of is)
       → option_map_or (λ (i : ℕ). i == j) (inner_at is k) false ≡ false
   unfound [] k apart = refl
-  unfound (i ∷ is) k apart = by (i.number == k) (unfound is k apart.1)
-    where
-      by : (b : Bool) → option_map_or (λ (x : ℕ). x == j) (inner_at is k) false ≡ false
-          → option_map_or (λ (x : ℕ). x == j) (option_map average_of (cond b (Some i) (find (λ (y : Inner). y.number == k) is))) false ≡ false
-      by true rest = eq_flips i.average j ∙ apart.0
-      by false rest = rest
+  unfound (i ∷ is) k apart = search (rules, unfound is k apart.1)
 
   is_that : (inners : List Inner) (k : ℕ) → number_by j inners ≡ Some n → AreApart (map average_of inners) → AreApart (map number_of inners)
       → option_map_or (λ (i : ℕ). i == j) (inner_at inners k) false ≡ (k == n)
@@ -199,10 +144,7 @@ module _ (j n : ℕ) where
       by : (a b : Bool) → (i.average == j) ≡ a → (i.number == k) ≡ b → option_map number_of (cond a (Some i) (find (λ (x : Inner). x.average == j) is)) ≡ Some n
           → (number_by j is ≡ Some n → option_map_or (λ (x : ℕ). x == j) (inner_at is k) false ≡ (k == n))
           → option_map_or (λ (x : ℕ). x == j) (option_map average_of (cond b (Some i) (find (λ (y : Inner). y.number == k) is))) false ≡ (k == n)
-      by true true q r f later =
-          let same : i.number ≡ n = cc in
-          let own : (k == n) ≡ true = let at = eqb-true i.number k r in grind (arith, nat_tests) in
-          q ∙ sym own
+      by true true q r f later = search rules
       by true false q r f later =
           let same : i.number ≡ n = cc in
           let other : (k == n) ≡ false = apart_false k n (λ e. let own : (i.number == k) ≡ true = grind (arith, nat_tests) in cc) in
@@ -224,9 +166,7 @@ module _ (j n : ℕ) where
           → (number_by j is ≡ Some n → inner_at (inners_without j is) k ≡ inner_at is k)
           → inner_at (cond (not a) (i ∷ inners_without j is) (inners_without j is)) k
           ≡ option_map average_of (cond b (Some i) (find (λ (y : Inner). y.number == k) is))
-      by true true q r f later =
-          let same : i.number ≡ n = cc in
-          absurd (let own : (k == n) ≡ true = let at = eqb-true i.number k r in grind (arith, nat_tests) in cc)
+      by true true q r f later = search rules
       by true false q r f later =
           ap (λ (xs : List Inner). inner_at xs k)
           (all_others j is (subst (λ (x : ℕ). AllByRecursion (λ y. (x == y) ≡ false) (map average_of is)) (eqb-true i.average j q) apart.0))
@@ -262,9 +202,7 @@ module _ (j n : ℕ) where
     none_more : (xs : List Member) (t : Totals) → AllByRecursion (λ y. (n == y) ≡ false) (map (λ (x : Member). x.number) xs)
         → with_inner_lost j (map (with_inner_name inners) xs) t ≡ t
     none_more [] t all = refl
-    none_more (x ∷ xs) t all =
-        let other : is_inner_of j (with_inner_name inners x) ≡ false = is_that inners x.number e apart once ∙ eq_flips x.number n ∙ all.0 in
-        ap (λ (b : Bool). with_inner_lost j (map (with_inner_name inners) xs) (cond b (with_lost x.lost t) t)) other ∙ none_more xs t all.1
+    none_more (x ∷ xs) t all = search (rules, is_that, none_more xs t all.1)
 
     totals_gone : (ms : List (Membership Queue)) (t : Totals) → AreApart (map (λ (x : Member). x.number) (map member_of ms))
         → with_left (lost_by n (map member_of ms)) t ≡ with_inner_lost j (map (with_inner_name inners) (map member_of ms)) t
@@ -283,51 +221,16 @@ module _ (j n : ℕ) where
             (subst (λ (k : ℕ). AllByRecursion (λ y. (k == y) ≡ false) (map (λ (y : Member). y.number) (map member_of ms))) (eqb-true m.number n q) numbers.0)))
         by false q is rest = let other : is_inner_of j (with_inner_name inners (member_of m)) ≡ false = is ∙ q in rw other rest
 
-    none_window : (before after : List Member) → window_left before after no_window ≡ no_window
-    none_window before after = by (not (is_empty before) && is_empty after)
-      where
-        by : (b : Bool) → cond b no_window no_window ≡ no_window
-        by true = refl
-        by false = refl
-
     pub one_gone : (st : Station) (ms : List (Membership Queue)) → st.members ≡ map member_of ms → st.window ≡ no_window
         → AreApart (map (λ (x : Member). x.number) (map member_of ms)) → named left_ones (station_after_leave n st) ≡ inner_gone j (named inners st)
-    one_gone st ms of new numbers =
-        let members : map (with_inner_name left_ones) (without n st.members)
-        ≡ filter (λ (x : Member). not (is_inner_of j x)) (map (with_inner_name inners) st.members)
-        =
-        subst (λ (xs : List Member). map (with_inner_name left_ones) (without n xs)
-        ≡ filter (λ (x : Member). not (is_inner_of j x)) (map (with_inner_name inners) xs)) (sym of) (members_gone ms) in
-        let totals : with_left (lost_by n st.members) st.totals ≡ with_inner_lost j (map (with_inner_name inners) st.members) st.totals
-        =
-        subst (λ (xs : List Member). with_left (lost_by n xs) st.totals ≡ with_inner_lost j (map (with_inner_name inners) xs) st.totals) (sym of)
-        (totals_gone ms st.totals numbers) in
-        ap (λ (xs : List Member). (let x : Station = record (station_after_leave n st) { members = xs } in x)) members
-        ∙ ap (λ (t : Totals). (let x : Station =
-        record (station_after_leave n st) { members = filter (λ (x : Member). not (is_inner_of j x)) (map (with_inner_name inners) st.members); totals = t } in
-        x)) totals
-        ∙ ap (λ (w : Window). (let x : Station = record (inner_gone j (named inners st)) { window = w } in x))
-        (ap (λ (w : Window). window_left st.members (without n st.members) w) new ∙ none_window st.members (without n st.members)
-        ∙ sym (none_window (map (with_inner_name inners) st.members) (filter (λ (x : Member). not (is_inner_of j x)) (map (with_inner_name inners) st.members)))
-        ∙ ap (λ (w : Window). window_left (map (with_inner_name inners) st.members)
-        (filter (λ (x : Member). not (is_inner_of j x)) (map (with_inner_name inners) st.members)) w) (sym new))
+    one_gone st ms of new numbers = search (rules, members_gone, totals_gone)
 
     -- ---- what holds afterwards
 
     kept_number : (i : ℕ) (ms : List (Membership Queue)) → (i == n) ≡ false → has_number i (map member_of ms) ≡ true
         → has_number i (without n (map member_of ms)) ≡ true
     kept_number i [] other has = has
-    kept_number i (m ∷ ms) other has = by (m.number == i) (m.number == n) refl refl has (kept_number i ms other)
-      where
-        by : (a b : Bool) → (m.number == i) ≡ a → (m.number == n) ≡ b → (a || has_number i (map member_of ms)) ≡ true
-            → (has_number i (map member_of ms) ≡ true → has_number i (without n (map member_of ms)) ≡ true)
-            → has_number i (cond (not b) (member_of m ∷ without n (map member_of ms)) (without n (map member_of ms))) ≡ true
-        by true true q r h later =
-            let near : i ≡ m.number = sym (eqb-true m.number i q) in
-            absurd (let both : (i == n) ≡ true = ap (λ (k : ℕ). k == n) near ∙ r in cc)
-        by true false q r h later = or_left (m.number == i) (has_number i (without n (map member_of ms))) q
-        by false true q r h later = later h
-        by false false q r h later = or_right (m.number == i) (has_number i (without n (map member_of ms))) (later h)
+    kept_number i (m ∷ ms) other has = search (rules, kept_number i ms other)
 
     -- each inner member that is left has another number
     others_left : (is : List Inner) → AllByRecursion (λ (k : Inner). inner_at inners k.number ≡ Some k.average) is
@@ -359,17 +262,13 @@ module _ (j n : ℕ) where
         by false q rest = ((λ own. all.0 (ap (λ (o : Option ℕ). is_some o) (sym (kept_inner inners m.number e q apart)) ∙ own)), rest)
 
     fewer : (is : List Inner) → is_empty (inners_without j is) ≡ false → is_empty is ≡ false
-    fewer [] f = f
-    fewer (i ∷ is) f = refl
+    fewer is f = search rules
 
     pub gone_facts : (shape shape' : ShapeRecord) (room : List ℕ) (ms ms' : List (Membership Queue)) → shape' ≡ shape
         → map member_of ms' ≡ without n (map member_of ms) → HasInners shape ms inners room → HasInners shape' ms' left_ones room
     gone_facts shape shape' room ms ms' same told sound = subst (λ (s : ShapeRecord). HasInners s ms' left_ones room) (sym same) (record {
       idle = told_idle shape left_ones ms' (subst (AreIdleTold shape left_ones) (sym told) (idle_left shape ms (idle_told shape inners ms sound.idle)));
-      there = told_there ms' left_ones (subst (λ (xs : List Member). AreThereTold xs left_ones) (sym told)
-          (there_left ms left_ones (others_left inners (own_average inners once))
-          (all_kept (λ (i : Inner). not (i.average == j)) (λ (i : Inner). has_number i.number (map member_of ms) ≡ true) inners
-          (there_told ms inners sound.there))));
+      there = search (rules, told_there, there_left, others_left, own_average, all_kept, there_told);
       once = distinct_kept (λ (i : Inner). not (i.average == j)) number_of inners once;
       apart = distinct_kept (λ (i : Inner). not (i.average == j)) average_of inners apart;
       roomy = λ some. sound.roomy (fewer inners some);

@@ -1,7 +1,7 @@
 -- A member that joins a device of a bench, or is refused.
-use Rattle.std.proofs.Common.{◌≡◌, ℕ, ◌+◌, ◌-◌, ◌<◌, ◌^◌, Bool, true, false, List, ◌∷◌, map, Option, Some, None, Result, Ok, Err, refl, sym, ap, subst, ◌∙◌, arith, cond}
-use Rattle.std.specs.Prelude.{not, nat_lt, is_none, option_and_then}
-use Rattle.std.proofs.lemmas.Bool.Decides.{nat_tests}
+use Rattle.std.proofs.Common.{◌≡◌, ℕ, ◌-◌, ◌<◌, ◌^◌, Bool, true, false, List, ◌∷◌, map, Option, Some, None, Result, Ok, Err, sym, subst, arith, rules}
+use Rattle.std.proofs.lemmas.Grind.{common_steps}
+use Rattle.std.specs.Prelude.{not, is_none, option_and_then}
 use Rattle.iio_base.specs.Refusals.{first_refusal}
 use Rattle.iio_text.specs.declared.errors.Errno.TheVariants.{EBUSY, ENODEV}
 use Rattle.iio_mask.specs.declared.Mask.{Mask}
@@ -9,12 +9,12 @@ use Rattle.iio_layout.specs.Active.{has_data}
 use Rattle.iio_layout.specs.Shape.{ShapeRecord, count_of}
 use Rattle.iio_desc.specs.Kind.{Input}
 use Rattle.iio_kfifo.specs.Queue.{Queue}
-use Rattle.iio_trigger.specs.Trigger.{State, with_place}
+use Rattle.iio_trigger.specs.Trigger.{State}
 use Rattle.iio_device.specs.declared.membership.Membership.{Membership}
 use Rattle.iio_device.specs.declared.roster.JoinFault.{JoinFault}
 use Rattle.iio_device.specs.declared.roster.JoinFault.TheVariants as fault
 use Rattle.iio_device.specs.Active.{is_without_union}
-use Rattle.iio_device.specs.Device.{DeviceView, device_joined, has_no_place as has_no_place_for, is_bad_mask, is_full as is_full_view, join_faults}
+use Rattle.iio_device.specs.Device.{DeviceView, has_no_place as has_no_place_for, is_bad_mask, is_full as is_full_view, join_faults}
 use Rattle.iio_device.specs.Joining.{member_faults}
 use Rattle.iio_device.specs.Members.{masks_of as masks_of_memberships}
 use Rattle.iiod_commands.specs.declared.iio.No.{No}
@@ -22,15 +22,13 @@ use Rattle.iio_core.specs.Machine.{masks_of}
 use Rattle.iio_core.specs.Faults.{errno_of}
 use Rattle.iio_core.specs.Opening.{join_refusals}
 use Rattle.iiod_commands.specs.No.{no_of}
-use Rattle.iio_core.specs.Calls.{station_after_join}
 use Rattle.iio_core.specs.Devices.{queue_waits}
-use Rattle.iio_core.proofs.DeviceLaws.{agree, joined_is as plain_joined, masks_are as plain_masks}
+use Rattle.iio_core.proofs.DeviceLaws.{agree, masks_are as plain_masks}
 use Rattle.iio_kinds.specs.declared.seat.Seat.{Seat}
 use Rattle.iio_kinds.specs.Acting.{KeepsCaptures}
-use Rattle.iio_kinds.specs.Faults.{Hosts, HostsAny, JoinsAny, JoinsBy, any_refusals, faults_at, first_queue, is_full as is_full_at, joining_of, lacks_place}
+use Rattle.iio_kinds.specs.Faults.{Hosts, HostsAny, JoinsAny, JoinsBy, any_refusals, faults_at, is_full as is_full_at, joining_of, lacks_place}
 use Rattle.iio_kinds.specs.Station.{member_of, station_of}
 use Rattle.iio_kinds.proofs.EmptyLemmas.{is_empty-map}
-use Rattle.iio_kinds.proofs.CallLemmas.{keeps_along}
 
 -- ---- the same refusals
 
@@ -39,9 +37,7 @@ masks_are ms = plain_masks (λ (q : Queue). q.lost) (λ q. q.capacity) queue_wai
 
 -- a mask within the shape that has a data channel
 pub good_mask : (shape : ShapeRecord) (mask : ℕ) → mask < 2 ^ count_of shape → has_data shape mask ≡ true → is_bad_mask shape mask ≡ false
-good_mask shape mask below channel =
-    let fits : nat_lt mask (2 ^ count_of shape) ≡ true = grind (arith, nat_tests) in
-    rw (fits, channel) refl
+good_mask shape mask below channel = search rules
 
 -- ---- an input device
 
@@ -75,11 +71,7 @@ module _ (states : List State) (d : DeviceView Queue) (mask : ℕ) (good : is_ba
 -- if there is no refusal, there is no fault
 none_back : (gone a b c : Bool) → first_refusal ((gone, ENODEV) ∷ (false, EBUSY) ∷ join_refusals a b c) ≡ None
     → first_refusal ((gone, fault.Gone) ∷ (false, fault.BadMask) ∷ member_faults a b c) ≡ None
-none_back true a b c e = absurd (cc)
-none_back false true b c e = absurd (cc)
-none_back false false true c e = absurd (cc)
-none_back false false false true e = absurd (cc)
-none_back false false false false e = refl
+none_back gone a b c e = search rules
 
 pub may_join : (d : DeviceView Queue) (mask : ℕ) (s : State) → is_bad_mask d.standing.shape mask ≡ false
     → first_refusal (any_refusals (has_no_place_for d.number s) Input d.standing.shape (station_of d) mask) ≡ None
@@ -90,25 +82,10 @@ may_join d mask s good e =
     (is_full_view d (Some s))
     (rw (masks_are d.standing.members, is_empty-map member_of d.standing.members) at e))
 
--- the device with another member
-pub joined_is : (mask : Mask) (capacity : ℕ) (d : DeviceView Queue)
-    → station_of (device_joined mask (first_queue d.standing.shape mask capacity) d) ≡ station_after_join mask.bits capacity false None (station_of d)
-joined_is mask capacity d =
-    sym (plain_joined (λ (q : Queue). q.lost) (λ q. q.capacity) queue_waits mask (first_queue d.standing.shape mask capacity) d
-    (record { none = refl; unlost = refl }))
-
 pub joins_any : (mask : Mask) (capacity : ℕ) (r : Result Seat No) (d d' : DeviceView Queue) (s s' : State) → JoinsBy mask capacity r d d' s s'
     → JoinsAny (joining_of d.number d.standing.shape mask capacity false None) r (station_of d) (station_of d') s s'
-joins_any mask capacity (Ok seat) d d' s s' j = (
-  j.0,
-  ap station_of j.1 ∙ joined_is mask capacity d,
-  j.2 ∙ ap (λ (b : Bool). cond b (record s { attached = with_place d.number (d.site.attachment + 1) s.attached }) s)
-      (sym (is_empty-map member_of d.standing.members)),
-)
-joins_any mask capacity (Err x) d d' s s' j = (j.0, ap station_of j.1, j.2)
+joins_any mask capacity r d d' s s' j = grind (arith, common_steps)
 
 pub joins_keep : (mask : Mask) (capacity : ℕ) (r : Result Seat No) (v v' : DeviceView Queue) (s s' : State) → JoinsBy mask capacity r v v' s s'
     → KeepsCaptures v v'
-joins_keep mask capacity (Ok seat) v v' s s' j =
-    keeps_along v _ v' (record { device = record { name = refl; number = refl; shape = refl }; captures = refl }) j.1
-joins_keep mask capacity (Err x) v v' s s' j = keeps_along v _ v' (record { device = record { name = refl; number = refl; shape = refl }; captures = refl }) j.1
+joins_keep mask capacity r v v' s s' j = search rules

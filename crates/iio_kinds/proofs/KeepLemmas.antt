@@ -1,5 +1,5 @@
 -- What no call changes of a device, by what each kind keeps.
-use Rattle.std.proofs.Common.{◌≡◌, ℕ, List, refl, ap, ◌∙◌}
+use Rattle.std.proofs.Common.{◌≡◌, ℕ, List, refl}
 use Rattle.iio_desc.specs.Description.{DeviceHead}
 use Rattle.iio_desc.specs.Kind.{Input}
 use Rattle.iio_layout.specs.Shape.{ShapeRecord}
@@ -16,9 +16,7 @@ use Rattle.iio_kinds.specs.Station.{KeepsFront, KeepsHead, KeepsIn, KeepsInCaptu
 
 pub front_by : (n n' : List ℕ) (s s' : ShapeRecord) → n' ≡ n → s' ≡ s
     → (let x : DeviceHead = record { name = n'; kind = Input; shape = s' } in x) ≡ (let y : DeviceHead = record { name = n; kind = Input; shape = s } in y)
-front_by n n' s s' name shape =
-    ap (λ (m : List ℕ). (let x : DeviceHead = record { name = m; kind = Input; shape = s' } in x)) name
-    ∙ ap (λ (z : ShapeRecord). (let x : DeviceHead = record { name = n; kind = Input; shape = z } in x)) shape
+front_by n n' s s' name shape = cc
 
 module _ {X : Type 0} {V : X → Type 0} where
   pub keeps_view : (drive : Plug X V → Driver) (x y : InDevice X V) → Keeps (view_by drive x.device) (view_by drive y.device) → KeepsIn x y

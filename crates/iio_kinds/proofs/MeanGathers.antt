@@ -1,22 +1,17 @@
 -- What a capture of its base and a look at its thresholds make of an averaging device, as an `Iio` tells it.
-use Rattle.std.proofs.Common.{◌≡◌, ℕ, zero, suc, ◌+◌, ◌-◌, ◌^◌, ◌<◌, ◌≤◌, Bool, true, false, List, [], ◌∷◌, ◌++◌, map, length, get_or, Option, Some, None, IfSome, refl, sym, ap, subst, ◌∙◌, arith, cond}
-use Rattle.std.specs.Prelude.{◌==◌, ◌||◌, not, is_some, nat_lt, ℤ, pos}
+use Rattle.std.proofs.Common.{◌≡◌, ℕ, zero, suc, ◌+◌, ◌-◌, ◌^◌, ◌<◌, ◌≤◌, Bool, true, false, List, [], ◌∷◌, map, length, get_or, Option, Some, None, IfSome, refl, sym, ap, subst, ◌∙◌, arith, rules}
+use Rattle.std.proofs.lemmas.Grind.{common_steps}
+use Rattle.std.specs.Prelude.{◌==◌, ◌||◌, is_some, ℤ, pos}
 use Rattle.std.specs.List.{list_any}
-use Rattle.std.proofs.lemmas.Bool.{eqb-true}
-use Rattle.std.proofs.lemmas.Bool.Decides.{nat_tests}
-use Rattle.std.proofs.lemmas.List.{length-map}
 use Rattle.iio_scan_type.specs.declared.Endian.{Endian}
 use Rattle.iio_mask.specs.Mask.{has}
 use Rattle.iio_layout.specs.Laws.{count_is}
 use Rattle.iio_layout.specs.Layout.{largest_below, size_at}
 use Rattle.iio_layout.specs.Scan.{capture_values, field_of, first_value, front_below, padded, scan_of, values_by, with_field}
-use Rattle.iio_layout.specs.Shape.{ShapeRecord, count_of, formats_of, stamp_formats, width_of}
+use Rattle.iio_layout.specs.Shape.{ShapeRecord, count_of, formats_of, width_of}
 use Rattle.iio_layout.proofs.ValueLemmas.{data_field, values_by-list}
-use Rattle.iio_kfifo.specs.declared.tail.Offered.{Offered}
-use Rattle.iio_kfifo.specs.declared.tail.Offered.TheVariants.{Taken, Lost}
-use Rattle.iio_kfifo.specs.Queue.{Offers, Queue}
 use Rattle.iio_desc.specs.Kind.{Average}
-use Rattle.iio_device.specs.Sensing.{Sensed, begun, with_sensed}
+use Rattle.iio_device.specs.Sensing.{begun}
 use Rattle.iio_device.specs.Site.{is_empty}
 use Rattle.iio_device.specs.declared.totals.Totals.{Totals}
 use Rattle.iio_derive.specs.declared.members.Membership.{Membership}
@@ -25,14 +20,14 @@ use Rattle.iio_derive.specs.Members.{SeatOffered, member_at}
 use Rattle.iio_derive.specs.ReadBack.{ReadingLaw}
 use Rattle.iio_derive.specs.Values.{moment_in, value_in, values_in}
 use Rattle.iio_derive.proofs.ReadLemmas.{length-values}
-use Rattle.iio_derive.specs.Window.{added, means_of, no_window, sums_by, sums_with, window_with}
-use Rattle.iio_core.specs.Machine.{Member, Station, with_site}
+use Rattle.iio_derive.specs.Window.{added, means_of, sums_by, sums_with}
+use Rattle.iio_core.specs.Machine.{Station}
 use Rattle.iio_core.specs.Moves.{Capture, offered_to, station_after_look}
 use Rattle.iio_kinds.specs.declared.mean_device.MeanSeat.{MeanSeat}
 use Rattle.iio_kinds.specs.declared.mean_device.MeanDevice.{MeanDevice}
 use Rattle.iio_kinds.specs.Handling.{IsScanOf, is_last, kind_gathered}
 use Rattle.iio_kinds.specs.MeanStation.{mean_member, mean_station}
-use Rattle.iio_kinds.specs.Seated.{AreSeated, IsMemberOf, IsSeating, IsWide}
+use Rattle.iio_kinds.specs.Seated.{AreSeated, IsMemberOf, IsSeating}
 use Rattle.iio_kinds.proofs.OutLemmas.{idle_sensed}
 use Rattle.iio_kinds.proofs.MeanTakes.{IsLike, like_has, like_seated}
 use Rattle.iio_kinds.proofs.SeatLemmas.{differs, empty_map, mean_with, seated_some, told_with}
@@ -55,8 +50,7 @@ front_same shape mask value t t' (suc c) within =
 unstamped : (shape : ShapeRecord) (mask : ℕ) (values : List ℤ) (t t' : ℤ) → shape.stamp ≡ None → length values ≡ width_of shape
     → scan_of shape mask values t' ≡ scan_of shape mask values t
 unstamped shape mask values t t' none wide =
-    let count : count_of shape ≡ length shape.channels =
-    count_is shape ∙ ap (λ (o : Option Endian). length shape.channels + length (stamp_formats o)) none ∙ zero_more (length shape.channels) in
+    let count : count_of shape ≡ length shape.channels = search (rules, count_is) in
     let value : ℕ → ℕ → ℤ = λ c k. get_or values (first_value (formats_of shape) c + k) (pos 0) in
     let front : front_below (formats_of shape) mask (capture_values values t') (count_of shape)
     ≡ front_below (formats_of shape) mask (capture_values values t) (count_of shape)
@@ -92,13 +86,7 @@ length-added (x ∷ xs) [] same = absurd (omega (arith, same))
 length-added (x ∷ xs) (y ∷ ys) same = let less : length xs ≡ length ys = omega (arith, same) in ap suc (length-added xs ys less)
 
 sums_wide : (n count : ℕ) (sums values : List ℤ) → (1 ≤ count → length sums ≡ n) → length values ≡ n → length (sums_by count sums values) ≡ n
-sums_wide n zero sums values wide many = many
-sums_wide n (suc count) sums values wide many = let old = wide (omega arith) in length-added values sums (many ∙ sym old) ∙ old
-
-few_offered : (shape : ShapeRecord) (captures : ℕ) (s : MeanSeat) (o : Option Membership) → IfSome o (IsMemberOf shape captures s)
-    → IfSome o (λ (m : Membership). m.queue.taken + m.queue.lost ≤ captures)
-few_offered shape captures s None h = tt
-few_offered shape captures s (Some m) h = h.offered
+sums_wide n count sums values wide many = search (rules, length-added)
 
 -- a scan has as many values as a capture
 pub values_wide : (shape : ShapeRecord) (scan : List ℕ) → length (values_in shape scan) ≡ width_of shape
@@ -107,18 +95,10 @@ values_wide shape scan = length-values shape (value_in shape scan)
 -- it has a member exactly if it has a seat
 module _ (a : AverageRecord) (captures next starts : ℕ) (seats : List MeanSeat) (sound : IsSeating a captures next starts seats) where
   pub member_some : has_member a.seats ≡ true → is_empty seats ≡ false
-  member_some e = by (is_empty seats) (sym e ∙ seated_some a.shape captures next a.seats seats sound.all sound.seated)
-    where
-      by : (b : Bool) → true ≡ not b → b ≡ false
-      by true t = absurd (cc)
-      by false t = refl
+  member_some e = search (rules, seated_some)
 
   pub member_none : has_member a.seats ≡ false → is_empty seats ≡ true
-  member_none e = by (is_empty seats) (sym e ∙ seated_some a.shape captures next a.seats seats sound.all sound.seated)
-    where
-      by : (b : Bool) → false ≡ not b → b ≡ true
-      by true t = refl
-      by false t = absurd (cc)
+  member_none e = grind (arith, common_steps)
 
 pub not_last : (n captures : ℕ) → n < 2 ^ 64 → n ≡ captures → is_last captures ≡ false → captures < 2 ^ 64 - 1
 not_last n captures small is fewer = let other = differs captures (2 ^ 64 - 1) fewer in omega (arith, small, is, other)
@@ -142,10 +122,7 @@ module _ (a a' : AverageRecord) (captures next starts : ℕ) (seats : List MeanS
       by : (b : Bool) → (s.slot == n) ≡ b → (b || list_any (λ (t : MeanSeat). t.slot == n) ss) ≡ true
           → (list_any (λ (t : MeanSeat). t.slot == n) ss ≡ true → IfSome (member_at n a.seats) (λ (m : Membership). m.queue.taken + m.queue.lost ≤ captures))
           → IfSome (member_at n a.seats) (λ (m : Membership). m.queue.taken + m.queue.lost ≤ captures)
-      by true own f later =
-          subst (λ (k : ℕ). IfSome (member_at k a.seats) (λ (m : Membership). m.queue.taken + m.queue.lost ≤ captures)) (eqb-true s.slot n own)
-          (few_offered a.shape captures s (member_at s.slot a.seats) all.0.member)
-      by false own f later = later f
+      by b own f later = search rules
 
   pub fewer_offered : captures < 2 ^ 64 - 1 → (n : ℕ) → IfSome (member_at n a.seats) (λ (m : Membership). m.queue.taken + m.queue.lost < 2 ^ 64 - 1)
   fewer_offered fewer n = by (member_at n a.seats) refl
@@ -164,23 +141,11 @@ module _ (a a' : AverageRecord) (captures next starts : ℕ) (seats : List MeanS
 
   module _ (adds : Adds scan None a a') where
     pub unfilled_sound : length (values_in a.shape scan) ≡ width_of a.shape → IsSeating a' captures next starts seats
-    unfilled_sound many = subst (λ (x : AverageRecord). IsSeating x captures next starts seats) (sym adds.1) (record {
-      seated = sound.seated;
-      apart = sound.apart;
-      once = sound.once;
-      all = sound.all;
-      idle = λ e. absurd (let more = some in cc);
-      wide = λ counted. sums_are many;
-      begun = sound.begun;
-    })
+    unfilled_sound many = search (rules, sums_are, begun)
 
     pub unfilled_told : (plugged : Bool) (totals : Totals) (base : ℕ) (c : Capture) → IsScanOf a.shape c scan
         → told a' plugged captures totals ≡ kind_gathered (Average base a.size) a.shape c (told a plugged captures totals)
-    unfilled_told plugged totals base c is =
-        rw (there, adds.0)
-        (ap (λ (x : AverageRecord). told x plugged captures totals) adds.1
-        ∙ ap (λ (xs : List ℤ). (let st : Station = record (told a plugged captures totals) { window = window_with a.window xs } in st))
-        (values_read law a.shape c scan is))
+    unfilled_told plugged totals base c is = search rules
 
   -- ---- a capture that fills one
 
@@ -189,35 +154,13 @@ module _ (a a' : AverageRecord) (captures next starts : ℕ) (seats : List MeanS
     means = means_of a.size (sums_with a.window (values_in a.shape scan))
 
     offered_like : (o o' : Option Membership) → SeatOffered a.shape means (moment_in a.shape scan) o o' → IsLike 1 o o'
-    offered_like None o' h = h
-    offered_like (Some m) None h = absurd h
-    offered_like (Some m) (Some x) h = by h.answer h.offered
-      where
-        by : (answer : Offered) → Offers m.queue (scan_of a.shape m.mask.bits means (moment_in a.shape scan)) answer x.queue → IsLike 1 (Some m) (Some x)
-        by Taken f =
-            let t = ap (λ (q : Queue). q.taken) f.1 in
-            let l = ap (λ (q : Queue). q.lost) f.1 in
-            (ap (λ (y : Membership). y.mask) h.same, ap (λ (q : Queue). q.capacity) f.1, ap (λ (q : Queue). q.size) f.1, omega (arith, t, l))
-        by Lost f =
-            let t = ap (λ (q : Queue). q.taken) f.1 in
-            let l = ap (λ (q : Queue). q.lost) f.1 in
-            (ap (λ (y : Membership). y.mask) h.same, ap (λ (q : Queue). q.capacity) f.1, ap (λ (q : Queue). q.size) f.1, omega (arith, t, l))
+    offered_like o o' h = search rules
 
     like : (n : ℕ) → IsLike 1 (member_at n a.seats) (member_at n a'.seats)
     like n = offered_like (member_at n a.seats) (member_at n a'.seats) (adds.2 n)
 
     pub filled_sound : IsSeating a' (captures + 1) next starts seats
-    filled_sound = record {
-      seated =
-          subst (λ (x : AverageRecord). AreSeated x.shape (captures + 1) next a'.seats seats) (sym adds.3)
-          (like_seated 1 a.seats a'.seats like a.shape captures next seats sound.seated);
-      apart = sound.apart;
-      once = sound.once;
-      all = like_has 1 a.seats a'.seats like seats sound.all;
-      idle = λ e. absurd (let more = some in cc);
-      wide = subst (λ (x : AverageRecord). IsWide x.shape x.window) (sym adds.3) (λ many. absurd (omega (arith, many)));
-      begun = sound.begun;
-    }
+    filled_sound = search (rules, like_seated, like, like_has, begun)
 
     module _ (c : Capture) (is : IsScanOf a.shape c scan) where
       abbrev mean : Capture
@@ -227,9 +170,7 @@ module _ (a a' : AverageRecord) (captures next starts : ℕ) (seats : List MeanS
       means_are = ap (λ (xs : List ℤ). means_of a.size (sums_with a.window xs)) (values_read law a.shape c scan is)
 
       means_wide : length means ≡ width_of a.shape
-      means_wide =
-          length-map (sums_with a.window (values_in a.shape scan)) _
-          ∙ sums_are (ap (λ (xs : List ℤ). length xs) (values_read law a.shape c scan is) ∙ is.values.width)
+      means_wide = grind (arith, common_steps, values_in, sums_are, values_read)
 
       scan_is : (mask : ℕ) → scan_of a.shape mask means (moment_in a.shape scan) ≡ scan_of a.shape mask (means_of a.size (sums_with a.window c.values)) c.moment
       scan_is mask = mean_scan law a.shape c scan is mask means means_wide ∙ ap (λ (xs : List ℤ). scan_of a.shape mask xs c.moment) means_are
@@ -238,43 +179,16 @@ module _ (a a' : AverageRecord) (captures next starts : ℕ) (seats : List MeanS
       offered_one : (s : MeanSeat) (o o' : Option Membership) → is_some o ≡ true → IfSome o (IsMemberOf a.shape captures s)
           → SeatOffered a.shape means (moment_in a.shape scan) o o'
           → mean_with s o' ≡ offered_to a.shape mean (mean_with s o)
-      offered_one s None o' live own h = absurd (cc)
-      offered_one s (Some m) None live own h = absurd h
-      offered_one s (Some m) (Some x) live own h = by h.answer h.offered
-        where
-          by : (answer : Offered) → Offers m.queue (scan_of a.shape m.mask.bits means (moment_in a.shape scan)) answer x.queue
-              → mean_with s (Some x) ≡ offered_to a.shape mean (mean_with s (Some m))
-          by Taken f =
-              let room : nat_lt (length m.queue.scans) s.capacity ≡ true = let less = f.0 in let most = own.capacity in grind (arith, nat_tests) in
-              let scans : x.queue.scans ≡ m.queue.scans ++ scan_of a.shape s.mask.bits (means_of a.size (sums_with a.window c.values)) c.moment ∷ []
-              =
-              ap (λ (q : Queue). q.scans) f.1
-              ∙ ap (λ (bytes : List ℕ). m.queue.scans ++ bytes ∷ [])
-              (ap (λ (k : ℕ). scan_of a.shape k means (moment_in a.shape scan)) own.mask ∙ scan_is s.mask.bits) in
-              let lost : x.queue.lost ≡ m.queue.lost = ap (λ (q : Queue). q.lost) f.1 in
-              rw (room, scans, lost) refl
-          by Lost f =
-              let full : nat_lt (length m.queue.scans) s.capacity ≡ false = let all = f.0 in let most = own.capacity in grind (arith, nat_tests) in
-              let scans : x.queue.scans ≡ m.queue.scans = ap (λ (q : Queue). q.scans) f.1 in
-              let lost : x.queue.lost ≡ m.queue.lost + 1 = ap (λ (q : Queue). q.lost) f.1 in
-              rw (full, scans, lost) refl
+      offered_one s o o' live own h = search (rules, scan_is)
 
       offered_all : (ss : List MeanSeat) → AreSeated a.shape captures next a.seats ss
           → map (mean_member a'.seats) ss ≡ map (offered_to a.shape mean) (map (mean_member a.seats) ss)
       offered_all [] all = refl
-      offered_all (s ∷ ss) all =
-          ap (λ (x : Member). x ∷ map (mean_member a'.seats) ss)
-          (offered_one s (member_at s.slot a.seats) (member_at s.slot a'.seats) all.0.live all.0.member (adds.2 s.slot))
-          ∙ ap (λ (xs : List Member). offered_to a.shape mean (mean_member a.seats s) ∷ xs) (offered_all ss all.1)
+      offered_all (s ∷ ss) all = grind (arith, common_steps, offered_one, offered_all ss all.1)
 
       pub filled_told : (plugged : Bool) (totals : Totals) (base : ℕ)
           → told a' plugged (captures + 1) totals ≡ kind_gathered (Average base a.size) a.shape c (told a plugged captures totals)
-      filled_told plugged totals base =
-          rw (there, adds.0)
-          (ap (λ (x : AverageRecord). told_with x plugged starts next (captures + 1) totals (map (mean_member a'.seats) seats)) adds.3
-          ∙ ap (λ (ms : List Member).
-          (let st : Station = record (told a plugged captures totals) { captures = captures + 1; members = ms; window = no_window } in st))
-          (offered_all seats sound.seated))
+      filled_told plugged totals base = search (rules, there, offered_all)
 
 -- if there is no member, nothing changes
 pub none_gathered : (a : AverageRecord) (plugged : Bool) (starts next captures : ℕ) (totals : Totals) (seats : List MeanSeat) (base : ℕ) (c : Capture)
@@ -287,12 +201,4 @@ none_gathered a plugged starts next captures totals seats base c e = let none = 
 
 -- it has no thresholds, so a look changes nothing
 pub mean_look_stays : (d : MeanDevice) (t : ℤ) → mean_station d ≡ station_after_look d.average.shape t (mean_station d)
-mean_look_stays d t =
-    by d.plugged
-    ∙ ap (λ (x : Sensed ℕ). cond d.plugged (with_site (with_sensed x) (mean_station d)) (mean_station d))
-    (sym (idle_sensed d.average.shape t (length d.average.shape.channels) (mean_station d).site.driver))
-  where
-    by : (b : Bool) → mean_station d
-        ≡ cond b (with_site (with_sensed (begun (mean_station d).site.driver (mean_station d).site.monitor)) (mean_station d)) (mean_station d)
-    by true = refl
-    by false = refl
+mean_look_stays d t = search (rules, idle_sensed, begun)

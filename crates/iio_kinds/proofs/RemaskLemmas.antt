@@ -1,8 +1,7 @@
 -- A REMASK at an input device.
-use Rattle.std.proofs.Common.{◌≡◌, ℕ, true, false, List, [], map, length, Option, Some, None, IfSome, Result, Ok, Err, refl, sym, ap, subst, ◌∙◌, arith}
+use Rattle.std.proofs.Common.{◌≡◌, ℕ, true, false, List, [], map, length, Option, Some, None, IfSome, Result, Ok, Err, refl, sym, ap, subst, ◌∙◌, rules}
 use Rattle.std.specs.Prelude.{is_none, option_and_then}
 use Rattle.std.specs.Option.{option_map_or}
-use Rattle.std.proofs.lemmas.Bool.Decides.{nat_tests}
 use Rattle.iio_base.specs.Refusals.{first_refusal, unless_refused}
 use Rattle.iio_text.specs.declared.errors.Errno.{Errno}
 use Rattle.iio_text.specs.declared.errors.Errno.TheVariants.{EBADF}
@@ -51,18 +50,13 @@ module _ (id : MemberId) (mask : Mask) (scans : ℕ) (v v' : DeviceView Queue) w
       refused_by EBADF (rw (e, absent) refl) (ap station_of same)
     where
       none_by : (o : Option Member) → option_map_or (λ (x : Member). true) o false ≡ false → is_none o ≡ true
-      none_by None h = refl
-      none_by (Some x) h = absurd (cc)
+      none_by o h = search rules
 
   abbrev Knows : Type 0
   Knows = IfSome (membership_of id.number v.standing.members) (λ (m : Membership Queue). m.mask.bits ≡ id.mask)
 
   pub knows_by : IsUnder id (membership_of id.number v.standing.members) → Knows
-  knows_by under = by (membership_of id.number v.standing.members) under
-    where
-      by : (o : Option (Membership Queue)) → IsUnder id o → IfSome o (λ (m : Membership Queue). m.mask.bits ≡ id.mask)
-      by None u = tt
-      by (Some m) u = grind (arith, u, nat_tests)
+  knows_by under = search rules
 
   pub refusals : (r : Option RemaskFault) → is_bad_mask v.standing.shape mask.bits ≡ false → Knows → first_refusal (remask_faults v id.number mask.bits) ≡ r
       → first_refusal (remask_refusals v.standing.shape (station_of v) id mask.bits) ≡ option_and_then remask_errno r
@@ -76,16 +70,11 @@ module _ (id : MemberId) (mask : Mask) (scans : ℕ) (v v' : DeviceView Queue) w
       (by f (refusals (Some f) good knows (stated (first_refusal (remask_faults v id.number mask.bits)) f e)))
     where
       stated : (o : Option RemaskFault) (f : RemaskFault) → Err f ≡ unless_refused (tt {0}) o → o ≡ Some f
-      stated None f e = absurd (cc)
-      stated (Some x) f e = let is : f ≡ x = cc in ap (λ (y : RemaskFault). Some y) (sym is)
+      stated o f e = search rules
 
       by : (f : RemaskFault) → first_refusal (remask_refusals v.standing.shape (station_of v) id mask.bits) ≡ remask_errno f
           → Acts (station_after_remask id.number mask.bits scans) answer (Err (remask_no f)) (station_of v) (station_of v')
-      by fault.Gone r = refused_by _ (ap (λ (o : Option Errno). unless_refused (length (scans_in id (station_of v).members)) o) r) (ap station_of same)
-      by fault.NotLive r = refused_by _ (ap (λ (o : Option Errno). unless_refused (length (scans_in id (station_of v).members)) o) r) (ap station_of same)
-      by fault.BadMask r = refused_by _ (ap (λ (o : Option Errno). unless_refused (length (scans_in id (station_of v).members)) o) r) (ap station_of same)
-      by fault.NoUnion r = refused_by _ (ap (λ (o : Option Errno). unless_refused (length (scans_in id (station_of v).members)) o) r) (ap station_of same)
-      by fault.Mem r = ap station_of same
+      by f r = search rules
 
   -- the exchange is made
   pub done : (tail before : Queue) (n : ℕ) → is_bad_mask v.standing.shape mask.bits ≡ false → Knows → tail.scans ≡ [] → tail.lost ≡ 0 → tail.capacity ≡ scans

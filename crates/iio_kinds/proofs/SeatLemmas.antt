@@ -1,9 +1,9 @@
 -- The seats of an averaging device's members, and the queues in their slots.
-use Rattle.std.proofs.Common.{◌≡◌, ℕ, zero, suc, ◌+◌, ◌-◌, ◌≤◌, Bool, true, false, List, [], ◌∷◌, ◌++◌, map, length, Option, Some, None, IfSome, refl, sym, ap, subst, ◌∙◌, arith, cond}
+use Rattle.std.proofs.Common.{◌≡◌, ℕ, zero, suc, ◌+◌, ◌-◌, ◌≤◌, Bool, true, false, List, [], ◌∷◌, ◌++◌, map, length, Option, Some, None, refl, ap, subst, ◌∙◌, arith, cond, rules}
+use Rattle.std.proofs.lemmas.Grind.{common_steps}
 use Rattle.std.specs.Prelude.{◌==◌, ◌||◌, ◌≢◌, not, filter, is_some}
 use Rattle.std.specs.List.{AllByRecursion, IsDistinct, list_any}
 use Rattle.std.specs.Option.{option_map_or}
-use Rattle.std.proofs.lemmas.Bool.{eqb-true}
 use Rattle.std.proofs.lemmas.Bool.Decides.{nat_tests}
 use Rattle.iio_layout.specs.Shape.{ShapeRecord}
 use Rattle.iio_device.specs.Site.{is_empty, new_site, no_driver}
@@ -16,25 +16,15 @@ use Rattle.iio_core.specs.Machine.{Member, Station}
 use Rattle.iio_kinds.specs.declared.mean_device.MeanSeat.{MeanSeat}
 use Rattle.iio_kinds.specs.Inner.{AreApart}
 use Rattle.iio_kinds.specs.MeanStation.{mean_member}
-use Rattle.iio_kinds.specs.Seated.{AreSeated, HasSeats, IsMemberOf, IsSeated, mean_number_of, seats_without, slot_by, slot_of}
+use Rattle.iio_kinds.specs.Seated.{AreSeated, HasSeats, mean_number_of, seats_without, slot_by, slot_of}
 
 -- ---- numbers
 
 pub eq_flips : (a b : ℕ) → (a == b) ≡ (b == a)
-eq_flips a b = by (a == b) refl (b == a) refl
-  where
-    by : (x : Bool) → (a == b) ≡ x → (y : Bool) → (b == a) ≡ y → x ≡ y
-    by true e true f = refl
-    by false e false f = refl
-    by true e false f = grind (arith, e, f)
-    by false e true f = grind (arith, e, f)
+eq_flips a b = search rules
 
 pub apart_false : (n k : ℕ) → (n ≡ k → ⊥) → (n == k) ≡ false
-apart_false n k h = by (n == k) refl
-  where
-    by : (b : Bool) → (n == k) ≡ b → b ≡ false
-    by true e = absurd (h (eqb-true n k e))
-    by false e = refl
+apart_false n k h = search rules
 
 pub differs : (n k : ℕ) → (n == k) ≡ false → k ≢ n
 differs n k e same = let own : (n == k) ≡ true = grind (arith, nat_tests) in cc
@@ -54,12 +44,10 @@ all_last P [] y all = all.0
 all_last P (x ∷ xs) y all = all_last P xs y all.1
 
 or_case : (a b c : Bool) → (a || b) ≡ true → (b ≡ true → c ≡ true) → (a || c) ≡ true
-or_case true b c e h = refl
-or_case false b c e h = h e
+or_case a b c e h = search rules
 
 or_right : (a b : Bool) → b ≡ true → (a || b) ≡ true
-or_right true b e = refl
-or_right false b e = e
+or_right a b e = search rules
 
 pub any_push : {A : Type 0} (test : A → Bool) (xs : List A) (y : A) → list_any test xs ≡ true → list_any test (xs ++ y ∷ []) ≡ true
 any_push test [] y e = absurd (cc)
@@ -71,11 +59,7 @@ any_last test (x ∷ xs) y e = or_right (test x) (list_any test (xs ++ y ∷ [])
 
 -- an element that isn't the last is before it
 pub any_front : {A : Type 0} (test : A → Bool) (xs : List A) (y : A) → test y ≡ false → list_any test (xs ++ y ∷ []) ≡ true → list_any test xs ≡ true
-any_front test [] y none e = by (test y) none e
-  where
-    by : (b : Bool) → b ≡ false → (b || false) ≡ true → false ≡ true
-    by true n t = absurd (cc)
-    by false n t = t
+any_front test [] y none e = cc
 any_front test (x ∷ xs) y none e = or_case (test x) (list_any test (xs ++ y ∷ [])) (list_any test xs) e (any_front test xs y none)
 
 pub map_push : {A B : Type 0} (f : A → B) (xs : List A) (y : A) → map f (xs ++ y ∷ []) ≡ map f xs ++ f y ∷ []
@@ -83,12 +67,10 @@ map_push f [] y = refl
 map_push {B = B} f (x ∷ xs) y = ap (λ (ys : List B). f x ∷ ys) (map_push f xs y)
 
 pub pushed_some : {A : Type 0} (xs : List A) (y : A) → is_empty (xs ++ y ∷ []) ≡ false
-pushed_some [] y = refl
-pushed_some (x ∷ xs) y = refl
+pushed_some xs y = grind (arith, common_steps)
 
 pub empty_map : {A B : Type 0} (f : A → B) (xs : List A) → is_empty (map f xs) ≡ is_empty xs
-empty_map f [] = refl
-empty_map f (x ∷ xs) = refl
+empty_map f xs = search rules
 
 pub distinct_push : (xs : List ℕ) (y : ℕ) → AreApart xs → AllByRecursion (λ z. (y == z) ≡ false) xs → AreApart (xs ++ y ∷ [])
 unfolding IsDistinct
@@ -109,19 +91,11 @@ last_apart (x ∷ xs) y apart = (eq_flips y x ∙ all_last (λ z. (x == z) ≡ f
 module _ {A : Type 0} (test : A → Bool) where
   pub all_kept : (P : A → Type 0) (xs : List A) → AllByRecursion P xs → AllByRecursion P (filter test xs)
   all_kept P [] all = tt
-  all_kept P (x ∷ xs) all = by (test x) (all_kept P xs all.1)
-    where
-      by : (b : Bool) → AllByRecursion P (filter test xs) → AllByRecursion P (cond b (x ∷ filter test xs) (filter test xs))
-      by true rest = (all.0, rest)
-      by false rest = rest
+  all_kept P (x ∷ xs) all = search (rules, all_kept P xs all.1)
 
   pub keys_kept : (key : A → ℕ) (P : ℕ → Type 0) (xs : List A) → AllByRecursion P (map key xs) → AllByRecursion P (map key (filter test xs))
   keys_kept key P [] all = tt
-  keys_kept key P (x ∷ xs) all = by (test x) (keys_kept key P xs all.1)
-    where
-      by : (b : Bool) → AllByRecursion P (map key (filter test xs)) → AllByRecursion P (map key (cond b (x ∷ filter test xs) (filter test xs)))
-      by true rest = (all.0, rest)
-      by false rest = rest
+  keys_kept key P (x ∷ xs) all = search (rules, keys_kept key P xs all.1)
 
   pub distinct_kept : (key : A → ℕ) (xs : List A) → AreApart (map key xs) → AreApart (map key (filter test xs))
   unfolding IsDistinct
@@ -129,16 +103,11 @@ module _ {A : Type 0} (test : A → Bool) where
   distinct_kept key (x ∷ xs) apart = by (test x) (distinct_kept key xs apart.1)
     where
       by : (b : Bool) → AreApart (map key (filter test xs)) → AreApart (map key (cond b (x ∷ filter test xs) (filter test xs)))
-      by true rest = (keys_kept key (λ z. (key x == z) ≡ false) xs apart.0, rest)
-      by false rest = rest
+      by b rest = search (rules, keys_kept)
 
   pub fewer_kept : (xs : List A) → length (filter test xs) ≤ length xs
   fewer_kept [] = omega arith
-  fewer_kept (x ∷ xs) = by (test x) (fewer_kept xs)
-    where
-      by : (b : Bool) → length (filter test xs) ≤ length xs → length (cond b (x ∷ filter test xs) (filter test xs)) ≤ length (x ∷ xs)
-      by true rest = omega (arith, rest)
-      by false rest = omega (arith, rest)
+  fewer_kept (x ∷ xs) = search (rules, fewer_kept xs)
 
 -- ---- members by their slots
 
@@ -176,49 +145,28 @@ AreOthers n seats = AllByRecursion (λ y. (n == y) ≡ false) (map slot_of seats
 module _ (n : ℕ) (slots slots' : List (Option Membership)) (same : KeepsOthers n slots slots') where
   pub others_told : (seats : List MeanSeat) → AreOthers n seats → map (mean_member slots') seats ≡ map (mean_member slots) seats
   others_told [] apart = refl
-  others_told (s ∷ ss) apart =
-      ap (λ (o : Option Membership). mean_with s o ∷ map (mean_member slots') ss) (same s.slot (differs n s.slot apart.0))
-      ∙ ap (λ (xs : List Member). mean_member slots s ∷ xs) (others_told ss apart.1)
+  others_told (s ∷ ss) apart = search (rules, others_told ss apart.1)
 
   pub others_seated : (shape : ShapeRecord) (captures next next' : ℕ) (seats : List MeanSeat) → next ≤ next' → AreOthers n seats
       → AreSeated shape captures next slots seats → AreSeated shape captures next' slots' seats
   others_seated shape captures next next' [] more apart all = tt
-  others_seated shape captures next next' (s ∷ ss) more apart all =
-      let own : member_at s.slot slots' ≡ member_at s.slot slots = same s.slot (differs n s.slot apart.0) in
-      let seat : IsSeated shape captures next' slots' s = record {
-        numbered = omega (arith, all.0.numbered, more);
-        live = ap (λ (o : Option Membership). is_some o) own ∙ all.0.live;
-        member = subst (λ (o : Option Membership). IfSome o (IsMemberOf shape captures s)) (sym own) all.0.member;
-      } in
-      (seat, others_seated shape captures next next' ss more apart.1 all.1)
+  others_seated shape captures next next' (s ∷ ss) more apart all = search (rules, others_seated shape captures next next' ss more apart.1 all.1)
 
   -- with a seat for that slot
   pub seats_push : (seats : List MeanSeat) (s : MeanSeat) → s.slot ≡ n → HasSeats slots seats → HasSeats slots' (seats ++ s ∷ [])
-  seats_push seats s is has slot live = by (s.slot == slot) refl
-    where
-      by : (b : Bool) → (s.slot == slot) ≡ b → list_any (λ (t : MeanSeat). t.slot == slot) (seats ++ s ∷ []) ≡ true
-      by true e = any_last (λ (t : MeanSeat). t.slot == slot) seats s e
-      by false e =
-          any_push (λ (t : MeanSeat). t.slot == slot) seats s
-          (has slot (ap (λ (o : Option Membership). is_some o) (sym (same slot (λ q. let own : (s.slot == slot) ≡ true = grind (arith, nat_tests) in cc)))
-          ∙ live))
+  seats_push seats s is has = grind (arith, common_steps)
 
 -- no member has a slot that is free
 pub free_slot : (shape : ShapeRecord) (captures next n : ℕ) (slots : List (Option Membership)) (seats : List MeanSeat)
     → member_at n slots ≡ None → AreSeated shape captures next slots seats → AreOthers n seats
 free_slot shape captures next n slots [] none all = tt
-free_slot shape captures next n slots (s ∷ ss) none all = (
-  apart_false n s.slot (λ e. let both : true ≡ false = sym all.0.live ∙ ap (λ (k : ℕ). is_some (member_at k slots)) (sym e)
-      ∙ ap (λ (o : Option Membership). is_some o) none in cc),
-  free_slot shape captures next n slots ss none all.1,
-)
+free_slot shape captures next n slots (s ∷ ss) none all = search (rules, free_slot shape captures next n slots ss none all.1)
 
 -- no member has the next number
 pub next_apart : (shape : ShapeRecord) (captures next : ℕ) (slots : List (Option Membership)) (seats : List MeanSeat)
     → AreSeated shape captures next slots seats → AllByRecursion (λ y. (next == y) ≡ false) (map mean_number_of seats)
 next_apart shape captures next slots [] all = tt
-next_apart shape captures next slots (s ∷ ss) all =
-    (apart_false next s.number (λ e. absurd (omega (arith, e, all.0.numbered))), next_apart shape captures next slots ss all.1)
+next_apart shape captures next slots (s ∷ ss) all = search (rules, next_apart shape captures next slots ss all.1)
 
 -- ---- whether there is a member
 
@@ -239,20 +187,12 @@ any_from (o ∷ os) (suc n) e = or_right (is_some o) (has_member os) (any_from o
 -- there is a member exactly if there is a seat
 pub has_seats : (slots : List (Option Membership)) (seats : List MeanSeat) → HasSeats slots seats
     → ((s : MeanSeat) (ss : List MeanSeat) → seats ≡ s ∷ ss → is_some (member_at s.slot slots) ≡ true) → has_member slots ≡ not (is_empty seats)
-has_seats slots [] has live = by (has_member slots) refl
-  where
-    by : (b : Bool) → has_member slots ≡ b → b ≡ false
-    by true e = let at = any_at slots e in let seat : false ≡ true = has at.0 at.1 in sym seat
-    by false e = refl
+has_seats slots [] has live = search (rules, any_at)
 has_seats slots (s ∷ ss) has live = any_from slots s.slot (live s ss refl)
 
 pub seated_some : (shape : ShapeRecord) (captures next : ℕ) (slots : List (Option Membership)) (seats : List MeanSeat) → HasSeats slots seats
     → AreSeated shape captures next slots seats → has_member slots ≡ not (is_empty seats)
-seated_some shape captures next slots seats has all = has_seats slots seats has (λ s ss e. first s ss seats e all)
-  where
-    first : (s : MeanSeat) (ss seats : List MeanSeat) → seats ≡ s ∷ ss → AreSeated shape captures next slots seats → is_some (member_at s.slot slots) ≡ true
-    first s ss [] e all = absurd (cc)
-    first s ss (t ∷ ts) e all = let same : t ≡ s = cc in subst (λ (x : MeanSeat). is_some (member_at x.slot slots) ≡ true) same all.0.live
+seated_some shape captures next slots seats has all = search (rules, has_seats)
 
 -- ---- the member of a number
 
@@ -262,8 +202,7 @@ module _ (number slot : ℕ) where
   slot_in P (s ∷ ss) e all = by (s.number == number) e (λ f. slot_in P ss f all.1)
     where
       by : (b : Bool) → cond b (Some s.slot) (slot_by number ss) ≡ Some slot → (slot_by number ss ≡ Some slot → P slot) → P slot
-      by true f later = let same : s.slot ≡ slot = cc in subst P same all.0
-      by false f later = later f
+      by b f later = search rules
 
   -- the others have other slots
   pub without_others : (seats : List MeanSeat) → slot_by number seats ≡ Some slot → AreApart (map slot_of seats) → AreOthers slot (seats_without number seats)
@@ -282,9 +221,7 @@ module _ (number slot : ℕ) where
   unnumbered : (n : ℕ) (seats : List MeanSeat) → (n == number) ≡ true → AllByRecursion (λ y. (n == y) ≡ false) (map mean_number_of seats)
       → seats_without number seats ≡ seats
   unnumbered n [] own all = refl
-  unnumbered n (s ∷ ss) own all =
-      let other : (s.number == number) ≡ false = let apart = all.0 in grind (arith, nat_tests) in
-      rw other (ap (λ (xs : List MeanSeat). s ∷ xs) (unnumbered n ss own all.1))
+  unnumbered n (s ∷ ss) own all = search (rules, unnumbered n ss own all.1)
 
   -- the member in each other slot still has its seat
   pub without_any : (k : ℕ) (seats : List MeanSeat) → (slot == k) ≡ false → slot_by number seats ≡ Some slot → AreApart (map mean_number_of seats)
@@ -297,13 +234,7 @@ module _ (number slot : ℕ) where
           → (slot_by number ss ≡ Some slot → list_any (λ (t : MeanSeat). t.slot == k) ss ≡ true
           → list_any (λ (t : MeanSeat). t.slot == k) (seats_without number ss) ≡ true)
           → list_any (λ (t : MeanSeat). t.slot == k) (cond (not b) (s ∷ seats_without number ss) (seats_without number ss)) ≡ true
-      by true own f later =
-          let same : s.slot ≡ slot = cc in
-          let none : (s.slot == k) ≡ false = ap (λ (n : ℕ). n == k) same ∙ other in
-          subst (λ (xs : List MeanSeat). list_any (λ (t : MeanSeat). t.slot == k) xs ≡ true) (sym (unnumbered s.number ss own once.0)) (rw none at any)
-      by false own f later =
-          or_case (s.slot == k) (list_any (λ (t : MeanSeat). t.slot == k) ss) (list_any (λ (t : MeanSeat). t.slot == k) (seats_without number ss)) any (later f)
+      by b own f later = search (rules, unnumbered)
 
   pub slot_found : (seats : List MeanSeat) → slot_by number seats ≡ Some slot → is_empty seats ≡ false
-  slot_found [] e = absurd (cc)
-  slot_found (s ∷ ss) e = refl
+  slot_found seats e = search rules

@@ -1,26 +1,25 @@
 -- What joining and leaving members make of an averaging device, as an `Iio` tells it.
-use Rattle.std.proofs.Common.{◌≡◌, ℕ, ◌+◌, ◌-◌, ◌<◌, ◌≤◌, Bool, true, false, List, [], ◌∷◌, ◌++◌, map, length, Option, Some, None, IfSome, Ok, refl, sym, ap, subst, ◌∙◌, arith, cond, option_map, unwrap_or}
-use Rattle.std.specs.Prelude.{◌==◌, ◌≢◌, not, is_some, find, ℤ}
+use Rattle.std.proofs.Common.{◌≡◌, ℕ, ◌+◌, ◌-◌, ◌≤◌, Bool, true, false, List, [], ◌∷◌, ◌++◌, map, length, Option, Some, None, Ok, refl, sym, ap, subst, ◌∙◌, arith, cond, option_map, unwrap_or, rules}
+use Rattle.std.proofs.lemmas.Grind.{common_steps}
+use Rattle.std.specs.Prelude.{◌==◌, not, is_some}
 use Rattle.std.specs.List.{AllByRecursion, IsDistinct, list_any}
 use Rattle.std.specs.Option.{option_map_or}
-use Rattle.std.proofs.lemmas.Bool.Decides.{nat_tests}
-use Rattle.std.proofs.lemmas.List.{length-append}
 use Rattle.iio_mask.specs.declared.Mask.{Mask}
 use Rattle.iio_layout.specs.Shape.{ShapeRecord}
-use Rattle.iio_device.specs.Site.{attached, is_empty}
+use Rattle.iio_device.specs.Site.{is_empty}
 use Rattle.iio_device.specs.Totals.{with_lost}
 use Rattle.iio_device.specs.declared.totals.Totals.{Totals}
 use Rattle.iio_derive.specs.declared.members.Membership.{Membership}
 use Rattle.iio_derive.specs.Average.{AverageRecord, Joins, Leaves, has_member}
 use Rattle.iio_derive.specs.Members.{member_at}
 use Rattle.iio_derive.specs.Window.{Window, no_window}
-use Rattle.iio_core.specs.Calls.{station_after_join, station_after_leave, window_left}
-use Rattle.iio_core.specs.Machine.{Member, Station, is_seat_of, lost_by, without}
+use Rattle.iio_core.specs.Calls.{station_after_join, station_after_leave}
+use Rattle.iio_core.specs.Machine.{Member, Station, lost_by, without}
 use Rattle.iio_kinds.specs.declared.mean_device.MeanSeat.{MeanSeat}
 use Rattle.iio_kinds.specs.Faults.{HasJoined, IsAnew}
 use Rattle.iio_kinds.specs.Inner.{AreApart}
 use Rattle.iio_kinds.specs.MeanStation.{mean_member}
-use Rattle.iio_kinds.specs.Seated.{AreSeated, HasSeats, IsMemberOf, IsSeated, IsSeating, IsWide, attachment_with, mean_number_of, seats_without, slot_by, slot_of}
+use Rattle.iio_kinds.specs.Seated.{AreSeated, HasSeats, IsSeated, IsSeating, IsWide, attachment_with, mean_number_of, seats_without, slot_by, slot_of}
 use Rattle.iio_kinds.proofs.SeatLemmas.{AreOthers, KeepsOthers, all_front, all_kept, all_last, all_push, any_front, distinct_front, distinct_kept, distinct_push, empty_map, fewer_kept, free_slot, last_apart, map_push, mean_with, next_apart, others_seated, others_told, pushed_some, seated_some, seats_push, slot_found, told_with, without_any, without_others}
 
 -- before a member joined
@@ -29,41 +28,12 @@ unfolding IsDistinct
 none_apart = tt
 
 none_seated : (a : AverageRecord) → a.seats ≡ [] → a.window ≡ no_window → IsSeating a 0 0 0 []
-none_seated a none new = record {
-  seated = tt;
-  apart = none_apart;
-  once = none_apart;
-  all = λ slot live. rw none at live;
-  idle = λ e. (ap (λ (w : Window). w.count) new, ap (λ (w : Window). w.sums) new);
-  wide = λ many. absurd (let few : a.window.count ≡ 0 = ap (λ (w : Window). w.count) new in omega (arith, few, many));
-  begun = omega arith;
-}
+none_seated a none new = search (rules, none_apart)
 
 pub none_made : (a : AverageRecord) (seats : List MeanSeat) → a.seats ≡ [] → a.window ≡ no_window → seats ≡ [] → IsSeating a 0 0 0 seats
 none_made a seats none new e = subst (IsSeating a 0 0 0) (sym e) (none_seated a none new)
 
 -- ---- another member
-
-begun_with : (b : Bool) (starts next n : ℕ) → starts + (n - 1) ≤ next → (b ≡ true → n ≡ 0) → (b ≡ false → 1 ≤ n)
-    → cond b (starts + 1) starts + (n + 1 - 1) ≤ next + 1
-begun_with true starts next n begun empty some = let none = empty refl in omega (arith, begun, none)
-begun_with false starts next n begun empty some = let more = some refl in omega (arith, begun, more)
-
-empty_none : (seats : List MeanSeat) → is_empty seats ≡ true → length seats ≡ 0
-empty_none [] e = refl
-empty_none (s ∷ ss) e = absurd (cc)
-
-some_more : (seats : List MeanSeat) → is_empty seats ≡ false → 1 ≤ length seats
-some_more [] e = absurd (cc)
-some_more (s ∷ ss) e = omega arith
-
-attached_told : (a : AverageRecord) (plugged : Bool) (starts next captures : ℕ) (totals : Totals) (slots : List (Option Membership)) (seats : List MeanSeat)
-    (mask capacity : ℕ)
-    → told_with a plugged (attachment_with seats starts) (next + 1) captures totals
-    (map (mean_member slots) seats ++ record { number = next; mask = mask; capacity = capacity; scans = []; lost = 0; cyclic = false; inner = None } ∷ [])
-    ≡ station_after_join mask capacity false None (told_with a plugged starts next captures totals (map (mean_member slots) seats))
-attached_told a plugged starts next captures totals slots [] mask capacity = refl
-attached_told a plugged starts next captures totals slots (s ∷ ss) mask capacity = refl
 
 module _ (a a' : AverageRecord) (mask : Mask) (capacity slot captures next starts : ℕ) (seats : List MeanSeat) (joins : Joins mask capacity (Ok slot) a a')
     (sound : IsSeating a captures next starts seats) where
@@ -77,13 +47,7 @@ module _ (a a' : AverageRecord) (mask : Mask) (capacity slot captures next start
   same = joins.1.others
 
   new_seated : IsSeated a.shape captures (next + 1) a'.seats new_seat
-  new_seated = record {
-    numbered = omega arith;
-    live = ap (λ (o : Option Membership). is_some o) joins.1.is;
-    member =
-        subst (λ (o : Option Membership). IfSome o (IsMemberOf a.shape captures new_seat)) (sym joins.1.is)
-        (record { mask = refl; capacity = refl; size = refl; offered = omega arith });
-  }
+  new_seated = search rules
 
   more : next ≤ next + 1
   more = omega arith
@@ -94,16 +58,11 @@ module _ (a a' : AverageRecord) (mask : Mask) (capacity slot captures next start
         (all_push (IsSeated a.shape captures (next + 1) a'.seats) seats new_seat
         (others_seated slot a.seats a'.seats same a.shape captures next (next + 1) seats more others sound.seated) new_seated);
     apart = subst AreApart (sym (map_push slot_of seats new_seat)) (distinct_push (map slot_of seats) slot sound.apart others);
-    once =
-        subst AreApart (sym (map_push mean_number_of seats new_seat))
-        (distinct_push (map mean_number_of seats) next sound.once (next_apart a.shape captures next a.seats seats sound.seated));
+    once = search (rules, map_push, distinct_push, next_apart);
     all = seats_push slot a.seats a'.seats same seats new_seat refl sound.all;
     idle = λ e. absurd (let some = pushed_some seats new_seat in cc);
     wide = subst (λ (x : AverageRecord). IsWide x.shape x.window) (sym joins.2) sound.wide;
-    begun =
-        let long = length-append seats (new_seat ∷ []) in
-        let risen = begun_with (is_empty seats) starts next (length seats) sound.begun (empty_none seats) (some_more seats) in
-        omega (arith, long, risen);
+    begun = grind (arith, common_steps);
   }
 
   members_are : map (mean_member a'.seats) (seats ++ new_seat ∷ [])
@@ -117,28 +76,19 @@ module _ (a a' : AverageRecord) (mask : Mask) (capacity slot captures next start
   pub joined_told : (plugged : Bool) (totals : Totals)
       → told_with a' plugged (attachment_with seats starts) (next + 1) captures totals (map (mean_member a'.seats) (seats ++ new_seat ∷ []))
       ≡ station_after_join mask.bits capacity false None (told_with a plugged starts next captures totals (map (mean_member a.seats) seats))
-  joined_told plugged totals =
-      ap (λ (x : AverageRecord). told_with x plugged (attachment_with seats starts) (next + 1) captures totals
-      (map (mean_member a'.seats) (seats ++ new_seat ∷ []))) joins.2
-      ∙ ap (λ (ms : List Member). told_with a plugged (attachment_with seats starts) (next + 1) captures totals ms) members_are
-      ∙ attached_told a plugged starts next captures totals a.seats seats mask.bits capacity
+  joined_told plugged totals = search (rules, members_are)
 
 -- if there is no member, the window begins anew
 pub told_anew : (a : AverageRecord) (plugged : Bool) (captures next starts : ℕ) (totals : Totals) (seats : List MeanSeat)
     → IsSeating a captures next starts seats
     → IsAnew (told_with a plugged starts next captures totals (map (mean_member a.seats) seats))
-told_anew a plugged captures next starts totals seats sound e =
-    let none : is_empty seats ≡ true = sym (empty_map (mean_member a.seats) seats) ∙ e in
-    let new = sound.idle none in
-    ap (λ (n : ℕ). (let w : Window = record { count = n; sums = a.window.sums } in w)) new.0
-    ∙ ap (λ (xs : List ℤ). (let w : Window = record { count = 0; sums = xs } in w)) new.1
+told_anew a plugged captures next starts totals seats sound = search rules
 
 -- ---- a member leaves
 
 -- the leaving of a member that is there
 leaves_live : (slot : ℕ) (b : Bool) (a a' : AverageRecord) → is_some (member_at slot a.seats) ≡ true → Leaves slot b a a' → Leaves slot true a a'
-leaves_live slot true a a' live leaves = leaves
-leaves_live slot false a a' live leaves = absurd (let gone = leaves.0 in cc)
+leaves_live slot b a a' live leaves = search rules
 
 -- the seats that are left
 module _ (a a' : AverageRecord) (slot captures next next' starts starts' : ℕ) (seats rest : List MeanSeat) (leaves : Leaves slot true a a')
@@ -157,40 +107,16 @@ module _ (a a' : AverageRecord) (slot captures next next' starts starts' : ℕ) 
   left_all k live = by (slot == k) refl
     where
       by : (b : Bool) → (slot == k) ≡ b → list_any (λ (s : MeanSeat). s.slot == k) rest ≡ true
-      by true e =
-          let own : k ≡ slot = grind (arith, nat_tests) in
-          absurd (let gone : is_some (member_at k a'.seats) ≡ false = ap (λ (n : ℕ). is_some (member_at n a'.seats)) own
-          ∙ ap (λ (o : Option Membership). is_some o) leaves.1.is in cc)
-      by false e =
-          let other : k ≢ slot = λ q. let own : (slot == k) ≡ true = grind (arith, nat_tests) in cc in
-          there k e (sound.all k (ap (λ (o : Option Membership). is_some o) (sym (stays k other)) ∙ live))
+      by b e = search rules
 
   left_some : has_member a'.seats ≡ not (is_empty rest)
   left_some = seated_some a.shape captures next' a'.seats rest left_all left_seated
 
   pub left_window : a'.window ≡ cond (is_empty rest) no_window a.window
-  left_window = ap (λ (x : AverageRecord). x.window) leaves.2 ∙ ap (λ (b : Bool). cond b a.window no_window) left_some ∙ flips (is_empty rest)
-    where
-      flips : (b : Bool) → cond (not b) a.window no_window ≡ cond b no_window a.window
-      flips true = refl
-      flips false = refl
-
-  wide_by : (b : Bool) → IsWide a.shape (cond b no_window a.window)
-  wide_by true = λ many. absurd (omega (arith, many))
-  wide_by false = sound.wide
+  left_window = search (rules, left_some)
 
   pub left_sound : IsSeating a' captures next' starts' rest
-  left_sound = record {
-    seated = subst (λ (x : AverageRecord). AreSeated x.shape captures next' a'.seats rest) (sym leaves.2) left_seated;
-    apart = apart;
-    once = once;
-    all = left_all;
-    idle =
-        λ e. let new : a'.window ≡ no_window =
-        left_window ∙ ap (λ (b : Bool). cond b no_window a.window) e in (ap (λ (w : Window). w.count) new, ap (λ (w : Window). w.sums) new);
-    wide = subst (λ (x : AverageRecord). IsWide x.shape a'.window) (sym leaves.2) (subst (IsWide a.shape) (sym left_window) (wide_by (is_empty rest)));
-    begun = begun;
-  }
+  left_sound = search (rules, left_seated, left_all, left_window)
 
   pub left_members : map (mean_member a'.seats) rest ≡ map (mean_member a.seats) rest
   left_members = others_told slot a.seats a'.seats stays rest others
@@ -198,14 +124,7 @@ module _ (a a' : AverageRecord) (slot captures next next' starts starts' : ℕ) 
   -- the device by what it was, with the window that is left
   pub left_with : (plugged : Bool) (totals : Totals) → told_with a' plugged starts' next' captures totals (map (mean_member a'.seats) rest)
       ≡ record (told_with a plugged starts' next' captures totals (map (mean_member a.seats) rest)) { window = cond (is_empty rest) no_window a.window }
-  left_with plugged totals =
-      ap (λ (x : AverageRecord).
-      (let st : Station = record (told_with x plugged starts' next' captures totals (map (mean_member a'.seats) rest)) { window = a'.window } in st)) leaves.2
-      ∙ ap (λ (w : Window). (let st : Station = record (told_with a plugged starts' next' captures totals (map (mean_member a'.seats) rest)) { window = w } in
-      st)) left_window
-      ∙ ap (λ (ms : List Member).
-      (let st : Station = record (told_with a plugged starts' next' captures totals ms) { window = cond (is_empty rest) no_window a.window } in st))
-      left_members
+  left_with plugged totals = search (rules, left_window, left_members)
 
 -- ---- the member of a number leaves
 
@@ -213,26 +132,12 @@ module _ (number slot : ℕ) (slots : List (Option Membership)) where
   lost_is : (seats : List MeanSeat) → slot_by number seats ≡ Some slot
       → lost_by number (map (mean_member slots) seats) ≡ Some (option_map_or (λ (m : Membership). m.queue.lost) (member_at slot slots) 0)
   lost_is [] e = absurd (cc)
-  lost_is (s ∷ ss) e = by (s.number == number) e (lost_is ss)
-    where
-      by : (b : Bool) → cond b (Some s.slot) (slot_by number ss) ≡ Some slot
-          → (slot_by number ss ≡ Some slot
-          → lost_by number (map (mean_member slots) ss) ≡ Some (option_map_or (λ (m : Membership). m.queue.lost) (member_at slot slots) 0))
-          → option_map (λ (x : Member). x.lost) (cond b (Some (mean_member slots s)) (find (is_seat_of number) (map (mean_member slots) ss)))
-          ≡ Some (option_map_or (λ (m : Membership). m.queue.lost) (member_at slot slots) 0)
-      by true f later = let same : s.slot ≡ slot = cc in ap (λ (k : ℕ). Some (option_map_or (λ (m : Membership). m.queue.lost) (member_at k slots) 0)) same
-      by false f later = later f
+  lost_is (s ∷ ss) e = search (rules, lost_is ss)
 
 without_is : (number : ℕ) (slots : List (Option Membership)) (seats : List MeanSeat)
     → without number (map (mean_member slots) seats) ≡ map (mean_member slots) (seats_without number seats)
 without_is number slots [] = refl
-without_is number slots (s ∷ ss) = by (s.number == number) (without_is number slots ss)
-  where
-    by : (b : Bool) → without number (map (mean_member slots) ss) ≡ map (mean_member slots) (seats_without number ss)
-        → cond (not b) (mean_member slots s ∷ without number (map (mean_member slots) ss)) (without number (map (mean_member slots) ss))
-        ≡ map (mean_member slots) (cond (not b) (s ∷ seats_without number ss) (seats_without number ss))
-    by true rest = rest
-    by false rest = ap (λ (xs : List Member). mean_member slots s ∷ xs) rest
+without_is number slots (s ∷ ss) = search (rules, without_is number slots ss)
 
 module _ (a a' : AverageRecord) (b : Bool) (number slot captures next starts : ℕ) (seats : List MeanSeat) (found : slot_by number seats ≡ Some slot)
     (left_by : Leaves slot b a a') (sound : IsSeating a captures next starts seats) where
@@ -242,8 +147,7 @@ module _ (a a' : AverageRecord) (b : Bool) (number slot captures next starts : �
     where
       by : (c : Bool) → cond c (Some s.slot) (slot_by number ss) ≡ Some slot → (slot_by number ss ≡ Some slot → is_some (member_at slot a.seats) ≡ true)
           → is_some (member_at slot a.seats) ≡ true
-      by true f later = let same : s.slot ≡ slot = cc in subst (λ (k : ℕ). is_some (member_at k a.seats) ≡ true) same all.0.live
-      by false f later = later f
+      by c f later = search rules
 
   leaves_left : Leaves slot true a a'
   leaves_left = leaves_live slot b a a' (live_at seats found sound.seated) left_by
@@ -268,9 +172,7 @@ module _ (a a' : AverageRecord) (b : Bool) (number slot captures next starts : �
   begun_left = let few = fewer_kept (λ (s : MeanSeat). not (s.number == number)) seats in let old = sound.begun in omega (arith, few, old)
 
   pub gone_sound : IsSeating a' captures next starts (seats_without number seats)
-  gone_sound =
-      left_sound a a' slot captures next next starts starts seats (seats_without number seats) leaves_left sound others_left kept_left apart_left once_left
-      there_left begun_left
+  gone_sound = search (rules, left_sound, leaves_left, others_left, kept_left, apart_left, once_left, there_left, begun_left)
 
   pub gone_told : (plugged : Bool) (totals totals' : Totals) (lost : ℕ)
       → lost ≡ unwrap_or (option_map (λ (m : Membership). m.queue.lost) (member_at slot a.seats)) 0 → totals' ≡ with_lost lost totals
@@ -293,44 +195,23 @@ module _ (a a' : AverageRecord) (b : Bool) (number slot captures next starts : �
       (is ∙ ap (λ (n : ℕ). with_lost n totals) (lost_of ∙ either (member_at slot a.seats))))
     where
       either : (o : Option Membership) → unwrap_or (option_map (λ (m : Membership). m.queue.lost) o) 0 ≡ option_map_or (λ (m : Membership). m.queue.lost) o 0
-      either None = refl
-      either (Some m) = refl
+      either o = search rules
 
 -- ---- no member has that number
 
 module _ (number : ℕ) (slots : List (Option Membership)) where
   none_lost : (seats : List MeanSeat) → slot_by number seats ≡ None → lost_by number (map (mean_member slots) seats) ≡ None
   none_lost [] e = refl
-  none_lost (s ∷ ss) e = by (s.number == number) e (none_lost ss)
-    where
-      by : (b : Bool) → cond b (Some s.slot) (slot_by number ss) ≡ None → (slot_by number ss ≡ None → lost_by number (map (mean_member slots) ss) ≡ None)
-          → option_map (λ (x : Member). x.lost) (cond b (Some (mean_member slots s)) (find (is_seat_of number) (map (mean_member slots) ss)))
-          ≡ None
-      by true f later = absurd (cc)
-      by false f later = later f
+  none_lost (s ∷ ss) e = search (rules, none_lost ss)
 
   none_without : (seats : List MeanSeat) → slot_by number seats ≡ None → without number (map (mean_member slots) seats) ≡ map (mean_member slots) seats
   none_without [] e = refl
-  none_without (s ∷ ss) e = by (s.number == number) e (none_without ss)
-    where
-      by : (b : Bool) → cond b (Some s.slot) (slot_by number ss) ≡ None
-          → (slot_by number ss ≡ None → without number (map (mean_member slots) ss) ≡ map (mean_member slots) ss)
-          → cond (not b) (mean_member slots s ∷ without number (map (mean_member slots) ss)) (without number (map (mean_member slots) ss))
-          ≡ map (mean_member slots) (s ∷ ss)
-      by true f later = absurd (cc)
-      by false f later = ap (λ (xs : List Member). mean_member slots s ∷ xs) (later f)
-
-stays_by : (ms : List Member) (w : Window) → w ≡ window_left ms ms w
-stays_by [] w = refl
-stays_by (x ∷ xs) w = refl
+  none_without (s ∷ ss) e = search (rules, none_without ss)
 
 pub nobody_left : (a : AverageRecord) (plugged : Bool) (number starts next captures : ℕ) (totals : Totals) (seats : List MeanSeat) → slot_by number seats ≡ None
     → told_with a plugged starts next captures totals (map (mean_member a.seats) seats)
     ≡ station_after_leave number (told_with a plugged starts next captures totals (map (mean_member a.seats) seats))
-nobody_left a plugged number starts next captures totals seats none =
-    rw (none_lost number a.seats seats none, none_without number a.seats seats none)
-    (ap (λ (w : Window). (let st : Station = record (told_with a plugged starts next captures totals (map (mean_member a.seats) seats)) { window = w } in st))
-    (stays_by (map (mean_member a.seats) seats) a.window))
+nobody_left a plugged number starts next captures totals seats none = search (rules, none_lost, none_without)
 
 -- ---- a joining is undone
 
@@ -352,69 +233,28 @@ back st = record st {
   site = cond (is_empty (front st.members)) (record st.site { attachment = st.site.attachment - 1 }) st.site;
 }
 
-less_one : (n : ℕ) → n + 1 - 1 ≡ n
-less_one n = omega arith
-
 back_joined : (mask capacity : ℕ) (st : Station) → back (station_after_join mask capacity false None st) ≡ st
-back_joined mask capacity st =
-    rw (
-      less_one st.next,
-      front_push st.members
-          (record { number = st.next; mask = mask; capacity = capacity; scans = []; lost = 0; cyclic = false; inner = None }),
-    ) (by (is_empty st.members) refl)
-  where
-    by : (b : Bool) → is_empty st.members ≡ b
-        → (let x : Station =
-        record st { site = cond b (record (attached b st.site) { attachment = (attached b st.site).attachment - 1 }) (attached b st.site) } in x) ≡ st
-    by true e = rw (less_one st.site.attachment) refl
-    by false e = refl
-
-abbrev final : List Member → Option Member
-final [] = None
-final (x ∷ []) = Some x
-final (x ∷ y ∷ ys) = final (y ∷ ys)
-
-final_push : (xs : List Member) (y : Member) → final (xs ++ y ∷ []) ≡ Some y
-final_push [] y = refl
-final_push (x ∷ []) y = refl
-final_push (x ∷ z ∷ zs) y = final_push (z ∷ zs) y
+back_joined mask capacity st = search (rules, front_push)
 
 -- the numbers of the others are below the last one's
 lowered : (shape : ShapeRecord) (captures next n : ℕ) (slots : List (Option Membership)) (seats : List MeanSeat) → next ≡ n + 1
     → AllByRecursion (λ y. (n == y) ≡ false) (map mean_number_of seats)
     → AreSeated shape captures next slots seats → AreSeated shape captures n slots seats
 lowered shape captures next n slots [] is apart all = tt
-lowered shape captures next n slots (s ∷ ss) is apart all =
-    let other : (n == s.number) ≡ false = apart.0 in
-    let less : s.number < n = let old = all.0.numbered in grind (arith, nat_tests) in
-    let seat : IsSeated shape captures n slots s = record { numbered = less; live = all.0.live; member = all.0.member } in
-    (seat, lowered shape captures next n slots ss is apart.1 all.1)
+lowered shape captures next n slots (s ∷ ss) is apart all = search (rules, lowered shape captures next n slots ss is apart.1 all.1)
 
 module _ (a a' : AverageRecord) (b : Bool) (mask : Mask) (capacity captures next starts : ℕ) (plugged : Bool) (totals : Totals) (init : List MeanSeat)
     (last : MeanSeat)
     (left_by : Leaves last.slot b a a') (sound : IsSeating a captures next starts (init ++ last ∷ []))
     (had : HasJoined mask capacity (told_with a plugged starts next captures totals (map (mean_member a.seats) (init ++ last ∷ [])))) where
-  abbrev came : Member
-  came = record { number = had.0.next; mask = mask.bits; capacity = capacity; scans = []; lost = 0; cyclic = false; inner = None }
-
   next_is : next ≡ had.0.next + 1
   next_is = ap (λ (st : Station). st.next) had.1
 
-  members_then : map (mean_member a.seats) init ++ mean_member a.seats last ∷ [] ≡ had.0.members ++ came ∷ []
-  members_then = sym (map_push (mean_member a.seats) init last) ∙ ap (λ (st : Station). st.members) had.1
-
   last_is : last.number ≡ had.0.next
-  last_is =
-      ap (λ (o : Option Member). option_map_or (λ (x : Member). x.number) o 0)
-      (sym (final_push (map (mean_member a.seats) init) (mean_member a.seats last)) ∙ ap final members_then ∙ final_push had.0.members came)
+  last_is = grind (arith, common_steps)
 
   next_last : next ≡ last.number + 1
   next_last = omega (arith, next_is, last_is)
-
-  first_ones : map (mean_member a.seats) init ≡ had.0.members
-  first_ones =
-      sym (front_push (map (mean_member a.seats) init) (mean_member a.seats last)) ∙ ap (λ (ms : List Member). front ms) members_then
-      ∙ front_push had.0.members came
 
   others_by : AreOthers last.slot init
   others_by = last_apart (map slot_of init) last.slot (subst AreApart (map_push slot_of init last) sound.apart)
@@ -440,16 +280,7 @@ module _ (a a' : AverageRecord) (b : Bool) (mask : Mask) (capacity captures next
   there_by k other any = any_front (λ (s : MeanSeat). s.slot == k) init last other any
 
   begun_by : cond (is_empty init) (starts - 1) starts + (length init - 1) ≤ next - 1
-  begun_by =
-      let long = length-append init (last ∷ []) in
-      let old = sound.begun in
-      by (is_empty init) refl long old next_last
-    where
-      by : (c : Bool) → is_empty init ≡ c → length (init ++ last ∷ []) ≡ length init + 1 → starts + (length (init ++ last ∷ []) - 1) ≤ next
-          → next ≡ last.number + 1
-          → cond c (starts - 1) starts + (length init - 1) ≤ next - 1
-      by true e long old more = let none = empty_none init e in omega (arith, long, old, more, none)
-      by false e long old more = let some = some_more init e in omega (arith, long, old, more, some)
+  begun_by = grind (arith, common_steps)
 
   apart_by : AreApart (map slot_of init)
   apart_by = distinct_front (map slot_of init) last.slot (subst AreApart (map_push slot_of init last) sound.apart)
@@ -458,36 +289,14 @@ module _ (a a' : AverageRecord) (b : Bool) (mask : Mask) (capacity captures next
   once_by = distinct_front (map mean_number_of init) last.number (subst AreApart (map_push mean_number_of init last) sound.once)
 
   pub undone_sound : IsSeating a' captures (next - 1) (cond (is_empty init) (starts - 1) starts) init
-  undone_sound =
-      left_sound a a' last.slot captures next (next - 1) starts (cond (is_empty init) (starts - 1) starts) (init ++ last ∷ []) init went sound others_by kept_by
-      apart_by once_by there_by begun_by
+  undone_sound = search (rules, left_sound, went, others_by, kept_by, apart_by, once_by, there_by, begun_by)
 
   window_was : cond (is_empty init) no_window a.window ≡ a.window
-  window_was = by (is_empty init) refl
-    where
-      by : (c : Bool) → is_empty init ≡ c → cond c no_window a.window ≡ a.window
-      by true e =
-          let none : is_empty had.0.members ≡ true = ap (λ (ms : List Member). is_empty ms) (sym first_ones) ∙ empty_map (mean_member a.seats) init ∙ e in
-          sym (ap (λ (st : Station). st.window) had.1 ∙ had.2 none)
-      by false e = refl
+  window_was = grind (arith, common_steps)
 
   back_is : told_with a plugged (cond (is_empty init) (starts - 1) starts) (next - 1) captures totals (map (mean_member a.seats) init)
       ≡ back (told_with a plugged starts next captures totals (map (mean_member a.seats) (init ++ last ∷ [])))
-  back_is =
-      let first : front (map (mean_member a.seats) (init ++ last ∷ [])) ≡ map (mean_member a.seats) init
-      =
-      ap (λ (ms : List Member). front ms) (map_push (mean_member a.seats) init last)
-      ∙ front_push (map (mean_member a.seats) init) (mean_member a.seats last) in
-      rw (first, empty_map (mean_member a.seats) init) (by (is_empty init))
-    where
-      by : (c : Bool) → told_with a plugged (cond c (starts - 1) starts) (next - 1) captures totals (map (mean_member a.seats) init)
-          ≡ (let x : Station = record (told_with a plugged starts (next - 1) captures totals (map (mean_member a.seats) init)) {
-            site =
-                cond c (record (told_with a plugged starts next captures totals []).site { attachment = starts - 1 })
-                (told_with a plugged starts next captures totals []).site;
-          } in x)
-      by true = refl
-      by false = refl
+  back_is = search (rules, map_push, front_push)
 
   pub undone_told : (before : Station)
       → told_with a plugged starts next captures totals (map (mean_member a.seats) (init ++ last ∷ []))

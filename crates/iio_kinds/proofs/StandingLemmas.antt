@@ -1,5 +1,5 @@
 -- What a call or a move keeps of a device's standing.
-use Rattle.std.proofs.Common.{◌≡◌, ℕ, true, refl}
+use Rattle.std.proofs.Common.{◌≡◌, ℕ, true, rules}
 use Rattle.iio_device.specs.Site.{is_empty}
 use Rattle.iio_core.specs.Attached.{is_attached}
 use Rattle.iio_core.specs.Machine.{Station, attachment_of}
@@ -27,16 +27,9 @@ pub record KeepsStanding (st st' : Station) : Type 0 where
 pub inner_kept : (st st' : Station) → st'.site.trigger ≡ st.site.trigger → st'.site.attachment ≡ st.site.attachment → st'.site.plugged ≡ st.site.plugged
     → is_empty st'.members ≡ is_empty st.members
     → ((j : ℕ) → has_inner j st' ≡ has_inner j st) → KeepsInner st st'
-inner_kept st st' trigger attachment plugged empty inner = record {
-  place = record { attached = λ t. rw (trigger, empty) refl; attachment = attachment };
-  hosted = λ n h. rw (trigger, empty) h;
-  plugged = plugged;
-  empty = empty;
-  inner = inner;
-}
+inner_kept st st' trigger attachment plugged empty inner = search rules
 
 pub standing : (st st' : Station) → st'.site.trigger ≡ st.site.trigger → st'.site.attachment ≡ st.site.attachment → st'.site.plugged ≡ st.site.plugged
     → is_empty st'.members ≡ is_empty st.members
     → ((j : ℕ) → has_inner j st' ≡ has_inner j st) → st'.captures ≡ st.captures → KeepsStanding st st'
-standing st st' trigger attachment plugged empty inner captures =
-    record { inner = inner_kept st st' trigger attachment plugged empty inner; captures = captures }
+standing st st' trigger attachment plugged empty inner captures = search rules

@@ -1,5 +1,6 @@
 -- What was written before a further piece was taken.
-use Rattle.std.proofs.Common.{◌≡◌, ◌⊎◌, ℕ, zero, suc, ◌+◌, Bool, true, false, cond, List, [], ◌∷◌, ◌++◌, length, take, Option, Some, None, IfSome, IfNone, Result, Ok, Err, refl, sym, ap, ◌∙◌, inl, inr, arith, append_assoc, append-nil}
+use Rattle.std.proofs.Common.{◌≡◌, ◌⊎◌, ℕ, zero, suc, ◌+◌, Bool, true, false, cond, List, [], ◌∷◌, ◌++◌, length, take, Option, Some, None, IfSome, IfNone, Result, Ok, Err, refl, sym, ap, ◌∙◌, inr, arith, append-nil, rules}
+use Rattle.std.proofs.lemmas.Grind.{common_steps}
 use Rattle.std.proofs.lemmas.List.{take_all, drop_all}
 use Rattle.iio_text.specs.Lines.{lines_of}
 use Rattle.iio_desc.specs.declared.reader.DescFault.{DescFault}
@@ -25,13 +26,11 @@ no_fault : (fault : DescFault) → Faulty fault ≡ Cut → ⊥
 no_fault fault is = cc
 
 no_described : (n : ℕ) (lines : List (List ℕ)) (read : Result Description DescFault) → described n lines read ≡ Cut → ⊥
-no_described n lines (Ok desc) is = cc
-no_described n lines (Err fault) is = cc
+no_described n lines read is = search rules
 
 cut_step : (ends : Bool) (one one' other other' : Head) → (one ≡ Cut → one' ≡ Cut) → (other ≡ Cut → other' ≡ Cut) → cond ends one other ≡ Cut
     → cond ends one' other' ≡ Cut
-cut_step true one one' other other' first second is = first is
-cut_step false one one' other other' first second is = second is
+cut_step ends one one' other other' first second is = search rules
 
 -- if no line of all ends it or is refused, none of the first lines does or is
 head_take : (reader : Reader) (n k : ℕ) (lines : List (List ℕ)) → head_from true reader n lines ≡ Cut → head_from true reader n (take k lines) ≡ Cut
@@ -65,26 +64,12 @@ takes_unended drivers input front h left is cut follows =
           ∙ head_take (new_reader drivers) 1 (end_count input) front cut;
     }) follows
 
--- nothing was taken
-pub unended_none : (drivers : ℕ) (input : List ℕ) → TakesUnended drivers input (Some input)
-unended_none drivers input = record { count = 0; rest = refl; before = 0; near = omega arith; head = refl }
-
 -- ---- the script
 
 -- more was written
 pub answers_more : (start : Start) (input sent more : List ℕ) (begin left : Option (List ℕ)) → AnswersScript start input sent begin left
     → AnswersScript start input (sent ++ more) begin left
-answers_more start input sent more begin left (inl same) = inl same
-answers_more start input sent more begin left (inr a) = inr (record {
-  count = a.count;
-  rest = a.rest;
-  before = a.before;
-  near = a.near;
-  given = a.given;
-  lines = a.lines;
-  more = a.more ++ more;
-  written = ap (λ t. t ++ more) a.written ∙ append_assoc (script_text start.setup (script_from start.setup.desc Finished [] start.first a.given)) a.more more;
-})
+answers_more start input sent more begin left h1 = grind (arith, common_steps)
 
 -- all was written, and after that a read was made
 pub answers_found : (start : Start) (given : List (List ℕ)) (input sent : List ℕ) (h : Hand) (begin left : Option (List ℕ)) → IsHand h
@@ -108,5 +93,4 @@ answers_found start given input sent h begin left is all going follows =
 pub read_on : (seen : Option Found) (l1 l2 : Option (List ℕ)) (h1 h2 : Hand) (kept : List ℕ) → IfSome seen (λ _. l2 ≡ l1) → (seen ≡ None → kept ≡ [])
     → IfNone seen (NeedsMore h1)
     → h2.over ≡ h1.over → (l2 ≡ l1) ⊎ ((h2.over ≡ false) × (kept ≡ []))
-read_on (Some found) l1 l2 h1 h2 kept same flushed needs over = inl same
-read_on None l1 l2 h1 h2 kept same flushed needs over = inr (over ∙ needs.going, flushed refl)
+read_on seen l1 l2 h1 h2 kept same flushed needs over = search rules

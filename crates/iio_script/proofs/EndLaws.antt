@@ -1,5 +1,6 @@
 -- What is written of what was printed.
-use Rattle.std.proofs.Common.{◌≡◌, ℕ, ◌∙◌, List, [], ◌++◌, take, drop, Option, Some, None, IfSome, IfNone, refl, sym, ap, append_assoc, append-nil, subst}
+use Rattle.std.proofs.Common.{◌≡◌, ℕ, List, [], ◌++◌, take, drop, Option, Some, None, IfSome, IfNone, refl, sym, append-nil, arith, rules}
+use Rattle.std.proofs.lemmas.Grind.{common_steps}
 use Rattle.std.proofs.lemmas.List.{take-append-drop}
 use Rattle.iio_io.specs.Bytes.{WritesPart}
 use Rattle.iio_script.specs.Ends.{Sends}
@@ -25,15 +26,9 @@ sends_part (Some xs) after kept part = (
 pub sends_more : (first before after : Option (List ℕ)) (sent kept rest : List ℕ) → IfSome first (λ xs. before ≡ Some (xs ++ sent))
     → (sends : Sends before after kept rest)
     → IfSome first (λ xs. after ≡ Some (xs ++ (sent ++ sends.sent)))
-sends_more None before after sent kept rest h sends = tt
-sends_more (Some xs) before after sent kept rest h sends = by_before before h sends.writes
-  where
-    by_before : (b : Option (List ℕ)) → b ≡ Some (xs ++ sent) → IfSome b (λ ys. after ≡ Some (ys ++ sends.sent)) → after ≡ Some (xs ++ (sent ++ sends.sent))
-    by_before b is writes =
-        subst (λ (o : Option (List ℕ)). IfSome o (λ ys. after ≡ Some (ys ++ sends.sent))) is writes ∙ ap Some (append_assoc xs sent sends.sent)
+sends_more first before after sent kept rest h sends = grind (arith, common_steps)
 
 -- ---- what isn't visible stays so
 
 pub silent_first : (left : Option (List ℕ)) → IfNone left (left ≡ None)
-silent_first None = refl
-silent_first (Some xs) = tt
+silent_first left = search rules

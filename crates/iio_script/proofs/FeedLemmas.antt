@@ -1,11 +1,11 @@
 -- A feed's quoted text comes after its name, which has no quote in it.
-use Rattle.std.proofs.Common.{◌≡◌, ℕ, Bool, true, false, ◌==◌, nat_le, List, [], ◌∷◌, ◌++◌, length, take_while, None, Result, refl, sym, ap, ◌∙◌, subst, eqb-true, one-add}
+use Rattle.std.proofs.Common.{◌≡◌, ℕ, Bool, true, nat_le, List, [], ◌∷◌, ◌++◌, length, take_while, None, Result, refl, sym, subst, rules}
 use Rattle.std.specs.List.{list_all}
 use Rattle.std.specs.Char.{is_ascii_alphabetic}
 use Rattle.iio_attr.specs.Name.{is_name, is_name_byte}
 use Rattle.iio_text.specs.declared.faults.LineFault.{LineFault}
 use Rattle.iio_text.specs.LineFault.{Tells}
-use Rattle.iio_text.specs.Words.{IsFirstWord, begins_word, from_word, is_space, onto_first, words_of}
+use Rattle.iio_text.specs.Words.{IsFirstWord, from_word, is_space, words_of}
 use Rattle.iio_desc.specs.Description.{Description}
 use Rattle.iiod_grammar.specs.Command.{entry_of}
 use Rattle.iio_text.specs.declared.refusals.Why.{Why}
@@ -15,15 +15,9 @@ use Rattle.iio_script.specs.Step.{feed_of}
 
 -- ---- the word that begins with a quote
 
-first_byte : (b : ℕ) (joined : Bool) (words : List (List ℕ)) → has_quote_first (onto_first b joined words) ≡ (b == 34)
-first_byte b true [] = refl
-first_byte b true (word ∷ words) = refl
-first_byte b false words = refl
-
 quote_byte : (b : ℕ) (bs : List ℕ) (t : Bool) → is_space b ≡ t → has_quote_first (words_of is_space bs) ≡ begins_quote (from_word bs)
     → has_quote_first (words_of is_space (b ∷ bs)) ≡ begins_quote (from_word (b ∷ bs))
-quote_byte b bs true space ih = rw space ih
-quote_byte b bs false space ih = rw space (first_byte b (begins_word is_space bs) (words_of is_space bs))
+quote_byte b bs t space ih = search rules
 
 quote_first : (text : List ℕ) → has_quote_first (words_of is_space text) ≡ begins_quote (from_word text)
 quote_first [] = refl
@@ -31,17 +25,9 @@ quote_first (b ∷ bs) = quote_byte b bs (is_space b) refl (quote_first bs)
 
 -- ---- the first quote of a line
 
-no_quote : (test : ℕ → Bool) (b : ℕ) → test 34 ≡ false → test b ≡ true → (b == 34) ≡ false
-no_quote test b fails holds = by_test (b == 34) refl
-  where
-    by_test : (t : Bool) → (b == 34) ≡ t → t ≡ false
-    by_test false is = refl
-    by_test true is = sym holds ∙ ap test (eqb-true b 34 is) ∙ fails
-
 space_past : (b : ℕ) (bs rest : List ℕ) (t : Bool) → is_space b ≡ t → from_quote (take_while is_space bs ++ rest) ≡ from_quote rest
     → from_quote (take_while is_space (b ∷ bs) ++ rest) ≡ from_quote rest
-space_past b bs rest false space ih = rw space refl
-space_past b bs rest true space ih = rw (space, one-add, no_quote is_space b refl space) ih
+space_past b bs rest t space ih = search rules
 
 past_spaces : (text rest : List ℕ) → from_quote (take_while is_space text ++ rest) ≡ from_quote rest
 past_spaces [] rest = refl
@@ -49,8 +35,7 @@ past_spaces (b ∷ bs) rest = space_past b bs rest (is_space b) refl (past_space
 
 name_byte_past : (b : ℕ) (bs rest : List ℕ) (t : Bool) → is_name_byte b ≡ t → list_all is_name_byte (b ∷ bs) ≡ true
     → (list_all is_name_byte bs ≡ true → from_quote (bs ++ rest) ≡ from_quote rest) → from_quote ((b ∷ bs) ++ rest) ≡ from_quote rest
-name_byte_past b bs rest false byte all ih = let h : false ≡ true = rw byte at all in absurd (cc)
-name_byte_past b bs rest true byte all ih = rw (no_quote is_name_byte b refl byte) (ih (rw byte at all))
+name_byte_past b bs rest t byte all ih = search rules
 
 past_name : (name rest : List ℕ) → list_all is_name_byte name ≡ true → from_quote (name ++ rest) ≡ from_quote rest
 past_name [] rest all = refl
@@ -58,8 +43,7 @@ past_name (b ∷ bs) rest all = name_byte_past b bs rest (is_name_byte b) refl a
 
 word_at : (b : ℕ) (bs : List ℕ) (t : Bool) → is_space b ≡ t → begins_quote (from_word (b ∷ bs)) ≡ true
     → (begins_quote (from_word bs) ≡ true → from_quote bs ≡ from_word bs) → from_quote (b ∷ bs) ≡ from_word (b ∷ bs)
-word_at b bs true space quote ih = rw (space, no_quote is_space b refl space) (ih (rw space at quote))
-word_at b bs false space quote ih = rw (space, rw space at quote) refl
+word_at b bs t space quote ih = search rules
 
 at_word : (text : List ℕ) → begins_quote (from_word text) ≡ true → from_quote text ≡ from_word text
 at_word [] quote = refl
@@ -67,30 +51,24 @@ at_word (b ∷ bs) quote = word_at b bs (is_space b) refl quote (at_word bs)
 
 first_byte_past : (b : ℕ) (bs rest : List ℕ) (t u : Bool) → is_ascii_alphabetic b ≡ t → nat_le (length bs) 31 ≡ u → is_name (b ∷ bs) ≡ true
     → from_quote ((b ∷ bs) ++ rest) ≡ from_quote rest
-first_byte_past b bs rest false u byte size is = let h : false ≡ true = rw byte at is in absurd (cc)
-first_byte_past b bs rest true false byte size is = let h : false ≡ true = rw (byte, size) at is in absurd (cc)
-first_byte_past b bs rest true true byte size is = rw (no_quote is_ascii_alphabetic b refl byte) (past_name bs rest (rw (byte, size) at is))
+first_byte_past b bs rest t u byte size is = search (rules, past_name)
 
 past_whole_name : (name rest : List ℕ) → is_name name ≡ true → from_quote (name ++ rest) ≡ from_quote rest
-past_whole_name [] rest is = absurd (cc)
-past_whole_name (b ∷ bs) rest is = first_byte_past b bs rest (is_ascii_alphabetic b) (nat_le (length bs) 31) refl refl is
+past_whole_name name rest is = search (rules, first_byte_past)
 
 quote_at : (line name words : List ℕ) → IsFirstWord is_space line name words → is_name name ≡ true → begins_quote (from_word words) ≡ true
     → from_quote line ≡ from_word words
-quote_at line name words first is quote =
-    ap from_quote first.parts ∙ past_spaces line (name ++ words) ∙ past_whole_name name words is ∙ at_word words quote
+quote_at line name words first is quote = search (rules, past_spaces, past_whole_name, at_word)
 
 -- ---- a feed
 
 by_quote : (line name words : List ℕ) → IsFirstWord is_space line name words → is_name name ≡ true → (t : Bool) → begins_quote (from_word words) ≡ t
     → feed_step line name (words_of is_space words) ≡ feed_of name (from_word words)
-by_quote line name words first is false quote = rw (is, quote_first words, quote) refl
-by_quote line name words first is true quote = rw (is, quote_first words, quote, quote_at line name words first is quote) refl
+by_quote line name words first is t quote = search (rules, quote_first, quote_at)
 
 by_name : (line name words : List ℕ) → IsFirstWord is_space line name words → (t : Bool) → is_name name ≡ t
     → feed_step line name (words_of is_space words) ≡ feed_of name (from_word words)
-by_name line name words first false is = rw is refl
-by_name line name words first true is = by_quote line name words first is (begins_quote (from_word words)) refl
+by_name line name words first t is = search (rules, by_quote)
 
 feed_is : (line name words : List ℕ) → IsFirstWord is_space line name words → feed_step line name (words_of is_space words) ≡ feed_of name (from_word words)
 feed_is line name words first = by_name line name words first (is_name name) refl

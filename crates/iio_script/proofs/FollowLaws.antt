@@ -1,15 +1,15 @@
 -- What a reader that goes through an input shows of it.
-use Rattle.std.proofs.Common.{◌≡◌, ◌≢◌, ℕ, suc, min, ◌+◌, ◌-◌, ◌<◌, ◌≤◌, Bool, true, false, List, [], ◌∷◌, ◌++◌, length, take, drop, Option, Some, refl, sym, ap, ◌∙◌, inl, inr, arith, subst, append_assoc, append-nil}
+use Rattle.std.proofs.Common.{◌≡◌, ◌≢◌, ℕ, suc, min, ◌+◌, ◌-◌, ◌<◌, ◌≤◌, Bool, true, false, List, [], ◌∷◌, ◌++◌, length, take, drop, Option, Some, refl, sym, ap, ◌∙◌, inl, inr, arith, subst, append_assoc, append-nil, rules}
+use Rattle.std.proofs.lemmas.Grind.{common_steps}
 use Rattle.std.proofs.Math.Seq.{take-append_seam, drop-append_seam}
-use Rattle.std.proofs.lemmas.Bool.{false≢true}
 use Rattle.std.proofs.lemmas.Bool.Decides.{nat_tests}
-use Rattle.std.proofs.lemmas.List.{length-append, length-take-le, take-append-drop, take-append-le, take-take, take_all, drop_all}
+use Rattle.std.proofs.lemmas.List.{length-append, length-take-le, take-append-drop, take-take, take_all, drop_all}
 use Rattle.iio_io.specs.Bytes.{TakesAtMost}
 use Rattle.iio_text.specs.Lines.{lines_of}
 use Rattle.iio_text.specs.declared.lines.TheConstants.{MAX_LINE_BYTES}
 use Rattle.iio_history.specs.Input.{ended_part, input_limit, is_overlong, scanned_lines}
 use Rattle.iio_script.specs.declared.line_reader.Found.{Found}
-use Rattle.iio_script.specs.declared.line_reader.Found.TheVariants.{Cut, End, Line, Long}
+use Rattle.iio_script.specs.declared.line_reader.Found.TheVariants.{Cut}
 use Rattle.iio_script.specs.LineReader.{Follows, FollowsAll, FollowsBy, FollowsFront, Hand, HasLine, IsCut, IsDone, IsHand, IsLong, IsPlain, NeedsMore, Shows, TakesNear, bytes_until, ended_size, line_of, piece_size, taken_of}
 use Rattle.iio_script.proofs.LineLaws.{BeginsWith, ended_none, lines_begin, plain_take}
 use Rattle.iio_script.proofs.ScannedLaws.{Begins, LongBehind, scanned_begin, scanned_cut, scanned_long, scanned_whole}
@@ -17,15 +17,7 @@ use Rattle.iio_script.proofs.HandLaws.{going_of, last_front, past, passed_front}
 
 -- a reader that has given nothing
 pub follows_first : (input : List ℕ) → Follows input [] (record { bytes = []; looked = 0; given = 0; ended = false; over = false }) (Some input)
-follows_first input = record {
-  bytes = [];
-  rest = input;
-  left_is = refl;
-  parts = refl;
-  given = refl;
-  front_is = record { lines = λ more. refl; ended = λ more. refl; size = refl };
-  end = λ ended. absurd (false≢true ended);
-}
+follows_first input = search rules
 
 -- what it shows, by whether its last line was given
 pub by_over : (P : Type 0) (input : List ℕ) (front : List (List ℕ)) (h : Hand) (left : Option (List ℕ)) → (h.over ≡ false → FollowsFront input front h left → P)
@@ -33,21 +25,17 @@ pub by_over : (P : Type 0) (input : List ℕ) (front : List (List ℕ)) (h : Han
 by_over P input front h left going over follows = cases h.over refl follows
   where
     cases : (o : Bool) → h.over ≡ o → FollowsBy o input front h left → P
-    cases false is goes = going is goes
-    cases true is all = over is all
+    cases o is goes = search rules
 
 -- ---- the next line
 
 pub next_line : (input : List ℕ) (front : List (List ℕ)) (h : Hand) (left : Option (List ℕ)) → IsHand h → HasLine h → Follows input front h left
     → Begins (front ++ line_of h ∷ []) (scanned_lines input)
 next_line input front h left is (inl has) follows =
-    let goes : FollowsFront input (front ++ line_of h ∷ []) (past h) left =
-    passed_front input front h left is.plain has.stands (going_of input front h left has.going follows) in
+    let goes : FollowsFront input (front ++ line_of h ∷ []) (past h) left = search (rules, passed_front) in
     subst (λ (xs : List ℕ). Begins (front ++ line_of h ∷ []) (scanned_lines xs)) (sym goes.parts)
     (scanned_begin goes.bytes ((past h).bytes ++ goes.rest) (front ++ line_of h ∷ []) goes.front_is (omega (arith, goes.given, has.within)))
-next_line input front h left is (inr has) follows =
-    let all : FollowsAll input (front ++ line_of h ∷ []) left = last_front input front h left is.plain has (going_of input front h left has.going follows) in
-    record { more = []; parts = all.lines ∙ sym (append-nil (front ++ line_of h ∷ [])) }
+next_line input front h left is (inr has) follows = search (rules, last_front)
 
 -- the lines that were given are the first of the looked-at lines
 pub follows_begin : (input : List ℕ) (front : List (List ℕ)) (h : Hand) (left : Option (List ℕ)) → IsHand h → Follows input front h left
@@ -68,18 +56,16 @@ no_line input front h left is done follows =
     (λ going goes. at_end goes (spent going done)) (λ over all. (all.lines, all.short, all.none_left, all.size, all.every)) follows
   where
     spent : h.over ≡ false → IsDone h → (h.ended ≡ true) × (h.bytes ≡ [])
-    spent going (inl over) = absurd (false≢true (sym going ∙ over))
-    spent going (inr x) = (x.ended, x.none)
+    spent going h1 = search rules
 
     at_end : FollowsFront input front h left → (h.ended ≡ true) × (h.bytes ≡ [])
         → (scanned_lines input ≡ front) × (is_overlong input ≡ false) × (left ≡ Some []) × (length input ≤ ended_size front) × (lines_of input ≡ front)
     at_end goes done =
         let none : goes.rest ≡ [] = goes.end done.0 in
-        let parts : input ≡ goes.bytes =
-        goes.parts ∙ ap (λ t. goes.bytes ++ (t ++ goes.rest)) done.1 ∙ ap (λ t. goes.bytes ++ t) none ∙ append-nil goes.bytes in
+        let parts : input ≡ goes.bytes = search rules in
         let few : length goes.bytes ≤ input_limit = omega (arith, goes.given, is.given) in (
           ap scanned_lines parts ∙ scanned_whole goes.bytes front goes.front_is few,
-          grind (arith, nat_tests, ap length parts, few),
+          grind (arith, few),
           goes.left_is ∙ ap Some none,
           omega (arith, ap length parts, goes.front_is.size),
           ap lines_of (parts ∙ sym (append-nil goes.bytes)) ∙ goes.front_is.lines [] ∙ append-nil front,
@@ -92,15 +78,13 @@ cut_line input front h left is cut follows =
     let goes : FollowsFront input front h left = going_of input front h left cut.going follows in
     let room : ℕ = input_limit - length goes.bytes in
     let few : room ≤ h.looked = omega (arith, goes.given, cut.all, cut.more) in
-    let part : take room (h.bytes ++ goes.rest) ≡ take room (line_of h) =
-    take-append-le room h.bytes goes.rest (omega (arith, few, is.looked)) ∙ sym (take-take room h.looked h.bytes few) in
-    let size : length input ≡ length goes.bytes + (length h.bytes + length goes.rest) =
-    ap length goes.parts ∙ length-append goes.bytes (h.bytes ++ goes.rest) ∙ ap (λ n. length goes.bytes + n) (length-append h.bytes goes.rest) in
+    let part : take room (h.bytes ++ goes.rest) ≡ take room (line_of h) = grind (arith, common_steps) in
+    let size : length input ≡ length goes.bytes + (length h.bytes + length goes.rest) = grind (arith, common_steps) in
     let over : input_limit < length input = omega (arith, size, goes.given, cut.more) in (
       ap scanned_lines goes.parts
           ∙ scanned_cut goes.bytes (h.bytes ++ goes.rest) front goes.front_is (omega (arith, goes.given, is.given)) (omega (arith, over, ap length goes.parts))
           (subst IsPlain (sym part) (plain_take room (line_of h) is.plain)) (omega (arith, goes.given, cut.short)),
-      grind (arith, nat_tests, over),
+      grind (arith, over),
     )
 
 -- the next line is too long
@@ -154,7 +138,7 @@ takes_at_most input front h left is follows =
     (λ going goes. record { count = taken_of h; within = is.within; rest = (taken_front input front h left goes).1 })
     (λ over all. record {
       count = length input;
-      within = grind (arith, nat_tests, all.short);
+      within = grind (arith, nat_tests);
       rest = all.none_left ∙ ap Some (sym (drop_all (length input) input (omega arith)));
     }) follows
 
@@ -177,8 +161,7 @@ near_line : (input : List ℕ) (front : List (List ℕ)) (h : Hand) (left : Opti
 near_line input front h left line more number is goes lines few at =
     let taken = taken_front input front h left goes in
     let next : number ≡ suc (length front) = omega (arith, at) in
-    let until : bytes_until number (lines_of input) ≡ ended_size front + (min (length line) MAX_LINE_BYTES + 1) =
-    ap (λ n. bytes_until n (lines_of input)) next ∙ ap (bytes_until (suc (length front))) lines ∙ until_front front line more in
+    let until : bytes_until number (lines_of input) ≡ ended_size front + (min (length line) MAX_LINE_BYTES + 1) = search (rules, until_front) in
     record {
       count = taken_of h;
       enough = taken.2;
@@ -197,10 +180,7 @@ near_found input front h left number is (inl has) follows at =
     ∙ append_assoc front (line_of h ∷ []) (lines_of ((past h).bytes ++ passed.rest)) in
     near_line input front h left (line_of h) (lines_of ((past h).bytes ++ passed.rest)) number is goes lines
     (omega (arith, is.near, is.few, length-take-le h.looked h.bytes is.looked)) at
-near_found input front h left number is (inr has) follows at =
-    let goes : FollowsFront input front h left = going_of input front h left has.going follows in
-    let all : FollowsAll input (front ++ line_of h ∷ []) left = last_front input front h left is.plain has goes in
-    near_line input front h left (line_of h) [] number is goes all.every (omega (arith, is.near, is.few, length-take-le h.looked h.bytes is.looked)) at
+near_found input front h left number is (inr has) follows at = search (rules, last_front, near_line)
 
 near_long : (input : List ℕ) (front : List (List ℕ)) (h : Hand) (left : Option (List ℕ)) (number : ℕ) → IsHand h → IsLong h → Follows input front h left
     → number ≡ length front + 1
@@ -209,12 +189,10 @@ near_long input front h left number is long follows at =
     let goes : FollowsFront input front h left = going_of input front h left long.going follows in
     let line : List ℕ = line_of h in
     let size : length line ≡ h.looked = length-take-le h.looked h.bytes is.looked in
-    let begins : BeginsWith line (lines_of (line ++ (drop h.looked h.bytes ++ goes.rest))) =
-    lines_begin line (drop h.looked h.bytes ++ goes.rest) is.plain (omega (arith, size, long.long)) in
+    let begins : BeginsWith line (lines_of (line ++ (drop h.looked h.bytes ++ goes.rest))) = search (rules, lines_begin) in
     let rest : h.bytes ++ goes.rest ≡ line ++ (drop h.looked h.bytes ++ goes.rest) =
     ap (λ t. t ++ goes.rest) (sym (take-append-drop h.looked h.bytes)) ∙ append_assoc line (drop h.looked h.bytes) goes.rest in
-    let lines : lines_of input ≡ front ++ (line ++ begins.rest) ∷ begins.more =
-    ap lines_of goes.parts ∙ goes.front_is.lines (h.bytes ++ goes.rest) ∙ ap (λ t. front ++ lines_of t) rest ∙ ap (λ ls. front ++ ls) begins.parts in
+    let lines : lines_of input ≡ front ++ (line ++ begins.rest) ∷ begins.more = search rules in
     near_line input front h left (line ++ begins.rest) begins.more number is goes lines
     (omega (arith, is.few, size, long.long, length-append line begins.rest)) at
 
@@ -224,8 +202,7 @@ near_end : (input : List ℕ) (front : List (List ℕ)) (h : Hand) (left : Optio
 near_end input front h left number is done follows at =
     let none = no_line input front h left is done follows in
     let next : number ≡ suc (length front) = omega (arith, at) in
-    let until : bytes_until number (lines_of input) ≡ ended_size front =
-    ap (λ n. bytes_until n (lines_of input)) next ∙ ap (bytes_until (suc (length front))) none.4 ∙ until_end front in
+    let until : bytes_until number (lines_of input) ≡ ended_size front = search (rules, until_end) in
     record {
       count = length input;
       enough = omega arith;
@@ -237,7 +214,4 @@ near_end input front h left number is done follows at =
 pub near : (input : List ℕ) (front : List (List ℕ)) (h : Hand) (left : Option (List ℕ)) (number : ℕ) (found : Found) → IsHand h → Shows found h → found ≢ Cut
     → Follows input front h left
     → number ≡ length front + 1 → TakesNear number input left
-near input front h left number Line is shows other follows at = near_found input front h left number is shows follows at
-near input front h left number Long is shows other follows at = near_long input front h left number is shows follows at
-near input front h left number End is shows other follows at = near_end input front h left number is shows follows at
-near input front h left number Cut is shows other follows at = absurd (other refl)
+near input front h left number found is shows other follows at = search (rules, near_found, near_long, near_end)

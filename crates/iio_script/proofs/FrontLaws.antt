@@ -1,5 +1,5 @@
 -- The lines that end in an LF within a front part of a text.
-use Rattle.std.proofs.Common.{◌≡◌, ℕ, zero, suc, ◌+◌, ◌-◌, ◌≤◌, Bool, true, false, cond, List, [], ◌∷◌, ◌++◌, length, take, drop, refl, ap, ◌∙◌, arith}
+use Rattle.std.proofs.Common.{◌≡◌, ℕ, zero, suc, ◌+◌, ◌-◌, ◌≤◌, Bool, true, false, cond, List, [], ◌∷◌, ◌++◌, length, take, drop, refl, ap, ◌∙◌, arith, rules}
 use Rattle.std.proofs.Math.Seq.{take-add, take-append-add}
 use Rattle.std.proofs.lemmas.Bool.{or_left}
 use Rattle.std.proofs.lemmas.List.{length-take-le}
@@ -34,9 +34,7 @@ split_step false b n lines all rest few h =
     (onto.0, ap (onto_line b) h ∙ onto.1)
 
 few_step : (t : Bool) (b n : ℕ) (lines : List (List ℕ)) → n ≤ length lines → cond t (suc n) n ≤ length (cond t ([] ∷ lines) (onto_line b lines))
-few_step true b n lines few = omega arith
-few_step false b n [] few = omega arith
-few_step false b n (l ∷ ls) few = few
+few_step t b n lines few = search rules
 
 -- each LF ends a line
 end_count_few : (text : List ℕ) → end_count text ≤ length (lines_of text)
@@ -54,8 +52,7 @@ lines_of-front (b ∷ bs) more =
     split_step (is_line_end b) b (end_count bs) (lines_of bs) (lines_of (bs ++ more)) front.0 (end_count_few bs) front.1
 
 count_step : (t : Bool) (m n k : ℕ) → m ≡ n + k → cond t (suc m) m ≡ cond t (suc n) n + k
-count_step true m n k h = omega arith
-count_step false m n k h = h
+count_step t m n k h = search rules
 
 pub end_count-append : (text more : List ℕ) → end_count (text ++ more) ≡ end_count text + end_count more
 end_count-append [] more = omega arith

@@ -1,13 +1,13 @@
 -- What a reader has in hand after it has looked on, and after it has taken one more piece.
-use Rattle.std.proofs.Common.{◌≡◌, ℕ, zero, suc, ◌+◌, ◌<◌, ◌≤◌, Bool, true, false, List, [], ◌∷◌, ◌++◌, length, take, drop, get_or, Option, Some, None, IfSome, nat_eq, refl, sym, ap, ◌∙◌, inl, inr, arith, subst, append_assoc, append-nil, eqb-true, get_or-drop}
+use Rattle.std.proofs.Common.{◌≡◌, ℕ, zero, suc, ◌+◌, ◌<◌, ◌≤◌, Bool, true, false, List, [], ◌∷◌, ◌++◌, length, take, drop, get_or, Option, Some, IfSome, nat_eq, refl, sym, ap, ◌∙◌, arith, subst, append_assoc, rules}
+use Rattle.std.proofs.lemmas.Grind.{common_steps}
 use Rattle.std.proofs.Math.Seq.{take-add}
 use Rattle.std.proofs.lemmas.Bool.{false_from_ne_true}
-use Rattle.std.proofs.lemmas.Bool.Decides.{nat_tests}
-use Rattle.std.proofs.lemmas.List.{length-append, length-drop, length-take-le, drop-append-le, drop-take, take-append-drop, take_all, take_more}
+use Rattle.std.proofs.lemmas.List.{length-append, length-drop, drop-take, take_all}
 use Rattle.std.proofs.lemmas.List.Folds.{list_any_more}
 use Rattle.memchr.specs.Find.{NoneBefore, Nowhere, Passes, is_byte}
 use Rattle.iio_text.specs.Lines.{is_line_end, lines_of}
-use Rattle.iio_history.specs.Input.{input_limit, scanned_lines}
+use Rattle.iio_history.specs.Input.{input_limit}
 use Rattle.iio_script.specs.LineReader.{Follows, FollowsAll, FollowsBy, FollowsFront, Hand, HasEnded, HasLast, HasLine, IsHand, IsPlain, NeedsMore, ReadsPiece, StandsAtEnd, empty_hand, line_of, piece_size, taken_of, to_take}
 use Rattle.iio_script.proofs.LineLaws.{ended_size-append, front_more, lines_last, plain_append}
 use Rattle.iio_script.proofs.ScannedLaws.{scanned_last}
@@ -40,20 +40,12 @@ scanned_on h k is few plain = record {
 pub scanned_to : (h : Hand) (text : List ℕ) (k : ℕ) → IsHand h → text ≡ drop h.looked h.bytes → NoneBefore (Passes (is_byte 10) text) 0 (length text) k
     × Passes (is_byte 10) text k
     → IsHand (record h { looked = h.looked + k })
-scanned_to h text k is same found =
-    let within : k < length text = found.0.high in
-    scanned_on h k is (omega (arith, ap length same, length-drop h.looked h.bytes, within))
-    (subst (λ (t : List ℕ). IsPlain (take k t)) same (plain_before text k found.0.before (omega (arith, within))))
+scanned_to h text k is same found = grind (arith, common_steps, scanned_on, plain_before)
 
 pub stands_at : (h : Hand) (text : List ℕ) (k : ℕ) → h.looked ≤ length h.bytes → text ≡ drop h.looked h.bytes
     → NoneBefore (Passes (is_byte 10) text) 0 (length text) k × Passes (is_byte 10) text k
     → StandsAtEnd (record h { looked = h.looked + k })
-stands_at h text k few same found =
-    let byte : get_or text k 0 ≡ 10 = eqb-true (get_or text k 0) 10 found.1 in
-    record {
-      some = omega (arith, found.0.high, ap length same, length-drop h.looked h.bytes, few);
-      end = sym (get_or-drop h.looked h.bytes k 0) ∙ ap (λ t. get_or t k 0) (sym same) ∙ byte;
-    }
+stands_at h text k few same found = grind (arith, common_steps)
 
 pub scanned_all : (h : Hand) (text : List ℕ) (all : ℕ) → IsHand h → text ≡ drop h.looked h.bytes → Nowhere (Passes (is_byte 10) text) 0 (length text)
     → all ≡ length h.bytes
@@ -78,8 +70,7 @@ of_going input front h left going goes = subst (λ (over : Bool). FollowsBy over
 
 -- the bytes in hand up to an LF
 ended_at : (text : List ℕ) (n : ℕ) → n < length text → get_or text n 0 ≡ 10 → (take n text ++ 10 ∷ []) ++ drop (n + 1) text ≡ text
-ended_at text n some end =
-    ap (λ t. t ++ drop (n + 1) text) (ap (λ b. take n text ++ b ∷ []) (sym end) ∙ sym (take_more text n 0 some)) ∙ take-append-drop (n + 1) text
+ended_at text n some end = grind (arith, common_steps)
 
 abbrev pub past : Hand → Hand
 past h = record h { bytes = drop (h.looked + 1) h.bytes; looked = 0; given = h.given + (h.looked + 1) }
@@ -94,15 +85,7 @@ passed_front input front h left plain at goes = record {
   parts = goes.parts ∙ ap (λ t. goes.bytes ++ (t ++ goes.rest)) (sym (ended_at h.bytes h.looked at.some at.end))
       ∙ ap (λ t. goes.bytes ++ t) (append_assoc (line_of h ++ 10 ∷ []) (drop (h.looked + 1) h.bytes) goes.rest)
       ∙ sym (append_assoc goes.bytes (line_of h ++ 10 ∷ []) (drop (h.looked + 1) h.bytes ++ goes.rest));
-  given =
-      omega (
-        arith,
-        length-append goes.bytes (line_of h ++ 10 ∷ []),
-        length-append (line_of h) (10 ∷ []),
-        length-take-le h.looked h.bytes
-            (omega (arith, at.some)),
-        goes.given,
-      );
+  given = grind (arith, common_steps);
   front_is = front_more goes.bytes (line_of h) front goes.front_is plain;
   end = goes.end;
 }
@@ -110,9 +93,7 @@ passed_front input front h left plain at goes = record {
 -- an LF ends the line
 pub passed_ended : (input : List ℕ) (front : List (List ℕ)) (h : Hand) (left : Option (List ℕ)) → IsHand h → HasEnded h → Follows input front h left
     → Follows input (front ++ line_of h ∷ []) (past h) left
-passed_ended input front h left is has follows =
-    of_going input (front ++ line_of h ∷ []) (past h) left has.going
-    (passed_front input front h left is.plain has.stands (going_of input front h left has.going follows))
+passed_ended input front h left is has follows = grind (arith, common_steps, passed_front)
 
 -- the line ends with the input
 pub last_front : (input : List ℕ) (front : List (List ℕ)) (h : Hand) (left : Option (List ℕ)) → IsPlain (line_of h) → HasLast h
@@ -121,56 +102,35 @@ pub last_front : (input : List ℕ) (front : List (List ℕ)) (h : Hand) (left :
 last_front input front h left plain has goes =
     let none : goes.rest ≡ [] = goes.end has.ended in
     let line : line_of h ≡ h.bytes = take_all h.looked h.bytes (omega (arith, has.all)) in
-    let parts : input ≡ goes.bytes ++ line_of h =
-    goes.parts ∙ ap (λ t. goes.bytes ++ (h.bytes ++ t)) none ∙ ap (λ t. goes.bytes ++ t) (append-nil h.bytes ∙ sym line) in
+    let parts : input ≡ goes.bytes ++ line_of h = search rules in
     let size : length input ≡ length goes.bytes + length (line_of h) = ap length parts ∙ length-append goes.bytes (line_of h) in
     let some : 0 < length (line_of h) = omega (arith, ap length line, has.some, has.all) in
     let few : length input ≤ input_limit = omega (arith, size, ap length line, goes.given, has.within) in
     record {
       none_left = goes.left_is ∙ ap Some none;
-      lines =
-          ap scanned_lines parts ∙ scanned_last goes.bytes (line_of h) front goes.front_is plain some
-          (omega (arith, few, size, length-append goes.bytes (line_of h)));
+      lines = search (rules, scanned_last);
       every = ap lines_of parts ∙ goes.front_is.lines (line_of h) ∙ ap (λ ls. front ++ ls) (lines_last (line_of h) plain some);
-      short = grind (arith, nat_tests, few);
+      short = grind (arith, few);
       size = omega (arith, size, ended_size-append front (line_of h ∷ []), goes.front_is.size);
     }
 
 pub passed_last : (input : List ℕ) (front : List (List ℕ)) (h h' : Hand) (left : Option (List ℕ)) → IsHand h → HasLast h → h'.over ≡ true
     → Follows input front h left
     → Follows input (front ++ line_of h ∷ []) h' left
-passed_last input front h h' left is has over follows =
-    subst (λ (o : Bool). FollowsBy o input (front ++ line_of h ∷ []) h' left) (sym over)
-    (last_front input front h left is.plain has (going_of input front h left has.going follows))
+passed_last input front h h' left is has over follows = search (rules, last_front)
 
 -- in both cases
 pub passed : (input : List ℕ) (front : List (List ℕ)) (h h' : Hand) (left : Option (List ℕ)) → IsHand h → HasLine h
     → (h.looked < length h.bytes → h' ≡ past h) → (length h.bytes ≤ h.looked → h'.over ≡ true) → Follows input front h left
     → Follows input (front ++ line_of h ∷ []) h' left
-passed input front h h' left is (inl has) ended last follows =
-    subst (λ (x : Hand). Follows input (front ++ line_of h ∷ []) x left) (sym (ended has.stands.some)) (passed_ended input front h left is has follows)
-passed input front h h' left is (inr has) ended last follows = passed_last input front h h' left is has (last (omega (arith, has.all))) follows
+passed input front h h' left is h1 ended last follows = search (rules, passed_ended, passed_last)
 
 -- ---- one more piece
-
-drop_none : (n : ℕ) → drop {A = ℕ} n [] ≡ []
-drop_none zero = refl
-drop_none (suc n) = refl
 
 filled_front : (input : List ℕ) (front : List (List ℕ)) (h : Hand) (left left' : Option (List ℕ)) (bytes' : List ℕ) (n : ℕ)
     (goes : FollowsFront input front h left)
     → ReadsPiece goes.rest h.bytes bytes' n left' → FollowsFront input front (record h { bytes = bytes'; ended = nat_eq n 0 }) left'
-filled_front input front h left left' bytes' n goes piece = record {
-  bytes = goes.bytes;
-  rest = drop n goes.rest;
-  left_is = piece.rest;
-  parts = goes.parts ∙ ap (λ t. goes.bytes ++ t)
-      (ap (λ t. h.bytes ++ t) (sym (take-append-drop n goes.rest)) ∙ sym (append_assoc h.bytes (take n goes.rest) (drop n goes.rest))
-      ∙ ap (λ t. t ++ drop n goes.rest) (sym piece.bytes));
-  given = goes.given;
-  front_is = goes.front_is;
-  end = λ zero. ap (drop n) (piece.end (grind (arith, nat_tests, zero))) ∙ drop_none n;
-}
+filled_front input front h left left' bytes' n goes piece = grind (arith, common_steps)
 
 pub filled : (input : List ℕ) (front : List (List ℕ)) (h : Hand) (left left' : Option (List ℕ)) (bytes' : List ℕ) (n : ℕ) → h.over ≡ false
     → IfSome left (λ xs. ReadsPiece xs h.bytes bytes' n left') → Follows input front h left
@@ -185,13 +145,7 @@ filled input front h left left' bytes' n going read follows =
 pub piece_behind : (before after : List ℕ) (begin n : ℕ) (left left' : Option (List ℕ)) → begin ≤ length before
     → IfSome left (λ xs. ReadsPiece xs before after n left')
     → IfSome left (λ xs. ReadsPiece xs (drop begin before) (drop begin after) n left')
-piece_behind before after begin n None left' few read = tt
-piece_behind before after begin n (Some xs) left' few read = record {
-  enough = read.enough;
-  bytes = ap (drop begin) read.bytes ∙ drop-append-le begin before (take n xs) few;
-  rest = read.rest;
-  end = read.end;
-}
+piece_behind before after begin n left left' few read = grind (arith, common_steps)
 
 pub filled_hand : (h : Hand) (before after : List ℕ) (begin n : ℕ) (ended : Bool) → IsHand h → NeedsMore h → h.bytes ≡ drop begin before → begin ≤ length before
     → take (length before) after ≡ before
@@ -199,9 +153,7 @@ pub filled_hand : (h : Hand) (before after : List ℕ) (begin n : ℕ) (ended : 
 filled_hand h before after begin n ended is needs same few behind grown small within =
     let long : length (drop begin after) ≡ length h.bytes + n = omega (arith, length-drop begin after, length-drop begin before, ap length same, grown, few) in
     let sum : length before ≡ begin + h.looked = omega (arith, length-drop begin before, ap length same, few, needs.all) in
-    let front : take h.looked (drop begin after) ≡ take h.looked h.bytes =
-    sym (drop-take begin h.looked after) ∙ ap (λ k. drop begin (take k after)) (sym sum) ∙ ap (drop begin) behind ∙ sym same
-    ∙ sym (take_all h.looked h.bytes (omega (arith, needs.all))) in
+    let front : take h.looked (drop begin after) ≡ take h.looked h.bytes = search (rules, drop-take, take_all) in
     record {
       looked = omega (arith, needs.all, long);
       plain = subst IsPlain (sym front) is.plain;
@@ -213,7 +165,4 @@ filled_hand h before after begin n ended is needs same few behind grown small wi
 
 pub takes_more : (h : Hand) (bytes' : List ℕ) (n : ℕ) → NeedsMore h → length bytes' ≡ length h.bytes + n
     → to_take (record h { bytes = bytes'; ended = nat_eq n 0 }) < to_take h
-takes_more h bytes' zero needs grown = rw needs.unended (omega (arith, needs.within))
-takes_more h bytes' (suc n) needs grown =
-    let test : nat_eq (suc n) 0 ≡ false = grind (arith, nat_tests) in
-    rw (needs.unended, test) (omega (arith, needs.within, grown))
+takes_more h bytes' n needs grown = search rules

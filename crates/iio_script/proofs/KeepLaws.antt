@@ -1,7 +1,6 @@
 -- The lines of a script, one after another: what is kept of them so far, and of the lines after them.
-use Rattle.std.proofs.Common.{◌≡◌, ℕ, ◌+◌, Bool, true, false, cond, List, [], ◌∷◌, ◌++◌, length, take, Option, Some, None, is_some, Ok, Err, refl, sym, ap, ◌∙◌, subst, arith, append_assoc, append-nil}
-use Rattle.std.proofs.Math.Seq.{take-append_seam}
-use Rattle.std.proofs.lemmas.List.{take_all}
+use Rattle.std.proofs.Common.{◌≡◌, ℕ, ◌+◌, Bool, true, false, cond, List, [], ◌∷◌, ◌++◌, length, take, Option, Some, None, is_some, Ok, Err, refl, sym, ap, ◌∙◌, subst, arith, append_assoc, append-nil, rules}
+use Rattle.std.proofs.lemmas.Grind.{common_steps}
 use Rattle.iio_text.specs.declared.refusals.Why.{Why}
 use Rattle.iio_text.specs.declared.refusals.Why.TheVariants.{Limit, Long}
 use Rattle.iio_text.specs.Lines.{fits_line}
@@ -20,13 +19,9 @@ use Rattle.iio_worlds.specs.KeptOn.{KeptGoesOn, kept_on}
 use Rattle.iio_worlds.specs.Worlds.{is_others}
 use Rattle.iio_script.specs.Keeps.{Excerpt, KeepsOn, KeepsStep, excerpt_of, kept_at_end, kept_of_lines}
 use Rattle.iio_script.specs.Plays.{AreSame, Progress, progress_of, with_line}
-use Rattle.iio_script.proofs.PlayLaws.{is_over, is_refused, means_nothing, same_after, same_kept, says_step}
+use Rattle.iio_script.proofs.PlayLaws.{same_after, same_kept, says_step}
 
 -- ---- a script's first line, with its number
-
-numbered_nothing : (desc : Description) (names : List (List ℕ)) (n : ℕ) (line : List ℕ) (lines : List (List ℕ)) → step_of desc line ≡ Ok None
-    → numbered_from desc names n (line ∷ lines) ≡ numbered_from desc names (n + 1) lines
-numbered_nothing desc names n line lines said = rw (said, numbered_from) refl
 
 numbered_step : (desc : Description) (names : List (List ℕ)) (n : ℕ) (line : List ℕ) (lines : List (List ℕ)) (step : Step) → step_of desc line ≡ Ok (Some step)
     → keeps_names names (Some step) ≡ true
@@ -35,23 +30,13 @@ numbered_step desc names n line lines step said kept = rw (said, kept, numbered_
 
 -- ---- a step
 
--- what is kept of a text together with a step's lines
-kept_part : (others : Bool) (text lines : List ℕ) → text ++ cond others [] lines ≡ take (cond others (length text) (length (text ++ lines))) (text ++ lines)
-kept_part true text lines = append-nil text ∙ sym (take-append_seam text lines)
-kept_part false text lines = sym (take_all (length (text ++ lines)) (text ++ lines) (omega arith))
-
 module _ {X : Type 0} {V : X → Type 0} (driver : Plug X V → Driver) where
   -- after an offence a step is only performed
   pub step_made : KeptGoesOn
       → (s : Setup) (a : List ℕ) (h : List Event) (t : Numbered) (offence : Option ℕ) (b : Bool) (text text' : List ℕ) (x' : System X V)
       → b ≡ is_some offence → b ≡ true → StandsFor driver s (with_step s h t.step) x'
       → KeepsStep driver s a h t (excerpt_of offence text) (excerpt_of offence text') x'
-  step_made law s a h t None b text text' x' is some stands = let never : true ≡ false = sym some ∙ is in cc
-  step_made law s a h t (Some line) b text text' x' is some stands = record {
-    stands = stands;
-    neutral = λ none. cc;
-    kept = λ ts ending. (law s a ending).3 line text h t ts text' (with_step s h t.step);
-  }
+  step_made law s a h t offence b text text' x' is some stands = search rules
 
   -- a step against the rules
   pub step_offends : KeptGoesOn
@@ -59,14 +44,7 @@ module _ {X : Type 0} {V : X → Type 0} (driver : Plug X V → Driver) where
       → b ≡ is_some offence → b ≡ false → ((offence ≡ None → only_bystanders s a h ≡ true))
       → (only_bystanders s a h ≡ true → meets ≡ only_bystanders s a (with_step s h t.step)) → meets ≡ false → StandsFor driver s (with_step s h t.step) x'
       → KeepsStep driver s a h t (excerpt_of offence text) (excerpt_of (Some t.number) text') x'
-  step_offends law s a h t (Some line) b meets text text' x' is none neutral decides against stands = let never : false ≡ true = sym none ∙ is in cc
-  step_offends law s a h t None b meets text text' x' is none neutral decides against stands =
-      let offends : only_bystanders s a (with_step s h t.step) ≡ false = sym (decides (neutral refl)) ∙ against in
-      record {
-        stands = stands;
-        neutral = λ none. cc;
-        kept = λ ts ending. (law s a ending).2 text h t ts offends text' (with_step s h t.step);
-      }
+  step_offends law s a h t offence b meets text text' x' is none neutral decides against stands = search rules
 
   -- a step that meets the rules
   pub step_kept : KeptGoesOn
@@ -76,54 +54,18 @@ module _ {X : Type 0} {V : X → Type 0} (driver : Plug X V → Driver) where
       → (only_bystanders s a h ≡ true → meets ≡ only_bystanders s a (with_step s h t.step)) → meets ≡ true → StandsFor driver s (with_step s h t.step) x'
       → whole ≡ text ++ lines_of_step s h t.step → count ≡ cond (is_others a t.step) (length text) (length whole) → text' ≡ take count whole
       → KeepsStep driver s a h t (excerpt_of offence text) (excerpt_of offence text') x'
-  step_kept law s a h t (Some line) b meets text whole text' count x' is none neutral decides keeps stands printed counted cut =
-      let never : false ≡ true = sym none ∙ is in cc
-  step_kept law s a h t None b meets text whole text' count x' is none neutral decides keeps stands printed counted cut =
-      let still : only_bystanders s a (with_step s h t.step) ≡ true = sym (decides (neutral refl)) ∙ keeps in
-      let part : text' ≡ take (cond (is_others a t.step) (length text) (length (text ++ lines_of_step s h t.step))) (text ++ lines_of_step s h t.step) =
-      cut ∙ ap (λ (k : ℕ). take k whole) counted
-      ∙ ap (λ (w : List ℕ). take (cond (is_others a t.step) (length text) (length w)) w) printed in
-      let left : text ++ cond (is_others a t.step) [] (lines_of_step s h t.step) ≡ text' =
-      kept_part (is_others a t.step) text (lines_of_step s h t.step) ∙ sym part in
-      record {
-        stands = stands;
-        neutral = λ none. still;
-        kept = λ ts ending.
-            (law s a ending).1 text h t ts still ∙ ap (λ (w : List ℕ). kept_on s a None w (with_step s h t.step) ts ending) left;
-      }
+  step_kept law s a h t offence b meets text whole text' count x' is none neutral decides keeps stands printed counted cut = grind (arith, common_steps)
 
   -- ---- a run that has reached a line
 
   pub keeps_first : KeptGoesOn → (s : Setup) (a : List ℕ) (x : System X V) (first : ℕ) → names_by x ≡ [] → StandsFor driver s [] x
       → KeepsOn driver s a x (excerpt_of None []) (progress_of first first [])
-  keeps_first law s a x first none stands = record {
-    done = [];
-    names = [];
-    stands = stands;
-    same = subst (λ (ns : List (List ℕ)). AreSame [] ns) (sym none) (record { known = λ name. refl; count = refl });
-    neutral = λ is. refl;
-    kept = λ ending lines. (law s a (script_from s.desc ending [] first lines).ending).0 (numbered_from s.desc [] first lines);
-  }
+  keeps_first law s a x first none stands = search rules
 
   -- a line that means nothing
   pub keeps_past : (s : Setup) (a : List ℕ) (x : System X V) (excerpt : Excerpt) (run : Progress) (line : List ℕ) → step_of s.desc line ≡ Ok None
       → KeepsOn driver s a x excerpt run → KeepsOn driver s a x excerpt (with_line run line)
-  keeps_past s a x excerpt run line said keeps = record {
-    done = keeps.done;
-    names = keeps.names;
-    stands = keeps.stands;
-    same = keeps.same;
-    neutral = keeps.neutral;
-    kept = λ ending lines.
-        sym
-        (ap
-        (λ (ts : List Numbered). kept_on s a excerpt.offence excerpt.text keeps.done ts (script_from s.desc ending keeps.names run.next (line ∷ lines)).ending)
-        (numbered_nothing s.desc keeps.names run.next line lines said)
-        ∙ ap (λ (script : Script). kept_on s a excerpt.offence excerpt.text keeps.done (numbered_from s.desc keeps.names (run.next + 1) lines) script.ending)
-        (means_nothing s.desc ending keeps.names run.next line lines said))
-        ∙ keeps.kept ending (line ∷ lines)
-        ∙ sym (ap (λ (ls : List (List ℕ)). kept_of_lines s a ending run.first ls) (append_assoc run.given (line ∷ []) lines));
-  }
+  keeps_past s a x excerpt run line said keeps = grind (arith, common_steps)
 
   -- a step that was performed
   pub keeps_more : (s : Setup) (a : List ℕ) (x x' : System X V) (old new : Excerpt) (run : Progress) (line : List ℕ) (step : Step)
@@ -156,37 +98,22 @@ module _ {X : Type 0} {V : X → Type 0} (driver : Plug X V → Driver) where
 
   -- ---- the end
 
-  -- the next line is refused
-  keeps_refused : (s : Setup) (a : List ℕ) (x : System X V) (excerpt : Excerpt) (run : Progress) (line : List ℕ) (lines : List (List ℕ)) (why : Why)
-      (ending : Ending)
-      → (keeps : KeepsOn driver s a x excerpt run)
-      → script_from s.desc ending keeps.names run.next (line ∷ lines) ≡ record { steps = []; ending = Refused run.next why }
-      → kept_of_lines s a ending run.first (run.given ++ line ∷ lines) ≡ Err (Refused run.next why)
-  keeps_refused s a x excerpt run line lines why ending keeps is =
-      sym (keeps.kept ending (line ∷ lines))
-      ∙ ap (λ (script : Script). kept_on s a excerpt.offence excerpt.text keeps.done (numbered_from s.desc keeps.names run.next (line ∷ lines)) script.ending)
-      is
-
   pub keeps_wrong : (s : Setup) (a : List ℕ) (x : System X V) (excerpt : Excerpt) (run : Progress) (line : List ℕ) (lines : List (List ℕ)) (why : Why)
       (ending : Ending)
       → step_of s.desc line ≡ Err why → KeepsOn driver s a x excerpt run
       → kept_of_lines s a ending run.first (run.given ++ line ∷ lines) ≡ Err (Refused run.next why)
-  keeps_wrong s a x excerpt run line lines why ending said keeps =
-      keeps_refused s a x excerpt run line lines why ending keeps (is_refused s.desc ending keeps.names run.next line lines why said)
+  keeps_wrong s a x excerpt run line lines why ending said keeps = search rules
 
   pub keeps_over : (s : Setup) (a : List ℕ) (x : System X V) (excerpt : Excerpt) (run : Progress) (line : List ℕ) (lines : List (List ℕ)) (step : Step)
       (ending : Ending)
       → step_of s.desc line ≡ Ok (Some step) → keeps_names (names_by x) (Some step) ≡ false → KeepsOn driver s a x excerpt run
       → kept_of_lines s a ending run.first (run.given ++ line ∷ lines) ≡ Err (Refused run.next Limit)
-  keeps_over s a x excerpt run line lines step ending said over keeps =
-      keeps_refused s a x excerpt run line lines Limit ending keeps
-      (is_over s.desc ending keeps.names run.next line lines step said (same_kept keeps.names (names_by x) step keeps.same ∙ over))
+  keeps_over s a x excerpt run line lines step ending said over keeps = search rules
 
   -- a line that is too long
   pub keeps_long : (s : Setup) (a : List ℕ) (x : System X V) (excerpt : Excerpt) (run : Progress) (line : List ℕ) (lines : List (List ℕ)) (ending : Ending)
       → fits_line line ≡ false → KeepsOn driver s a x excerpt run → kept_of_lines s a ending run.first (run.given ++ line ∷ lines) ≡ Err (Refused run.next Long)
-  keeps_long s a x excerpt run line lines ending long keeps =
-      keeps_wrong s a x excerpt run line lines Long ending (rw long refl) keeps
+  keeps_long s a x excerpt run line lines ending long keeps = search rules
 
   -- no line is left
   pub keeps_done : KeptGoesOn → (s : Setup) (a : List ℕ) (x : System X V) (excerpt : Excerpt) (run : Progress) → KeepsOn driver s a x excerpt run
@@ -195,8 +122,7 @@ module _ {X : Type 0} {V : X → Type 0} (driver : Plug X V → Driver) where
       sym (keeps.kept Finished [] ∙ ap (λ (ls : List (List ℕ)). kept_of_lines s a Finished run.first ls) (append-nil run.given)) ∙ by excerpt.offence
     where
       by : (o : Option ℕ) → kept_on s a o excerpt.text keeps.done [] Finished ≡ kept_at_end o excerpt.text
-      by None = (law s a Finished).4 excerpt.text keeps.done
-      by (Some line) = refl
+      by o = search rules
 
   -- the input goes on
   pub keeps_cut : (s : Setup) (a : List ℕ) (x : System X V) (excerpt : Excerpt) (run : Progress) → KeepsOn driver s a x excerpt run

@@ -1,20 +1,19 @@
 -- The lines of an input of which something is kept, as a reader gives them; and its description.
-use Rattle.std.proofs.Common.{◌≡◌, ℕ, ◌+◌, Bool, true, false, List, [], ◌∷◌, ◌++◌, length, Option, Some, None, Result, Ok, Err, IfOk, IfSome, refl, sym, ap, ◌∙◌, subst, append_assoc, append-nil}
+use Rattle.std.proofs.Common.{◌≡◌, ℕ, ◌+◌, Bool, true, false, List, [], ◌∷◌, ◌++◌, length, Option, Some, None, Result, Ok, Err, IfOk, IfSome, refl, sym, ap, ◌∙◌, append_assoc, append-nil, arith, rules}
+use Rattle.std.proofs.lemmas.Grind.{common_steps}
 use Rattle.iio_io.specs.Bytes.{TakesAtMost}
 use Rattle.iio_text.specs.declared.refusals.Why.{Why}
 use Rattle.iio_text.specs.declared.refusals.Why.TheVariants.{Long}
 use Rattle.iio_sensor.specs.Driver.{Driver}
-use Rattle.iio_desc.specs.declared.reader.DescFault.TheVariants.{Line}
 use Rattle.iio_desc.specs.Description.{Description}
-use Rattle.iio_desc.specs.DescReader.{new_reader}
 use Rattle.iio_device.specs.declared.plug.Plug.{Plug}
 use Rattle.iio_history.specs.Input.{input_limit, is_overlong, scanned_lines}
-use Rattle.iio_history.specs.Outcome.{Cut, Described, Faulty, Head, head_from, head_of, last_ending}
+use Rattle.iio_history.specs.Outcome.{Cut, head_of, last_ending}
 use Rattle.iio_history.specs.Registry.{Setup}
 use Rattle.iio_history.specs.Script.{Ending, Finished, Refused, TooLong}
 use Rattle.iio_system.specs.declared.system.System.{System}
 use Rattle.iio_worlds.specs.KeptOn.{KeptGoesOn}
-use Rattle.iio_worlds.specs.Solo.{kept_of, kept_of_head}
+use Rattle.iio_worlds.specs.Solo.{kept_of}
 use Rattle.iio_script.specs.declared.opening.Opening.TheVariants as read
 use Rattle.iio_script.specs.Keeps.{Excerpt, KeepsOn, excerpt_of, kept_at_end, kept_of_lines}
 use Rattle.iio_script.specs.LineReader.{Follows, Hand, HasLine, IsCut, IsDone, IsHand, IsLong, TakesBlocks, line_of}
@@ -22,7 +21,6 @@ use Rattle.iio_script.specs.Plays.{progress_of, with_line}
 use Rattle.iio_script.specs.Told.{EndsAlone, EndsAt, RefusesAt}
 use Rattle.iio_script.proofs.FollowLaws.{cut_line, follows_begin, long_line, next_line, no_line, takes_at_most}
 use Rattle.iio_script.proofs.KeepLaws.{keeps_cut, keeps_done, keeps_long}
-use Rattle.iio_script.proofs.OutcomeLaws.{takes_of}
 use Rattle.iio_script.proofs.StepLaws.{same_rest}
 
 module _ {X : Type 0} {V : X → Type 0} (driver : Plug X V → Driver) where
@@ -35,21 +33,13 @@ module _ {X : Type 0} {V : X → Type 0} (driver : Plug X V → Driver) where
   pub so_far_first : (s : Setup) (a : List ℕ) (x : System X V) (text : List ℕ) (first : ℕ) (h : Hand) (left : Option (List ℕ)) → text ≡ []
       → KeepsOn driver s a x (excerpt_of None []) (progress_of first first [])
       → KeptSoFar s a x (excerpt_of None text) first first h h left left
-  so_far_first s a x text first h left empty keeps = record {
-    given = [];
-    keeps = subst (λ (t : List ℕ). KeepsOn driver s a x (excerpt_of None t) (progress_of first first [])) (sym empty) keeps;
-    follows = λ input front follows. subst (λ (f : List (List ℕ)). Follows input f h left) (sym (append-nil front)) follows;
-  }
+  so_far_first s a x text first h left empty keeps = search rules
 
   -- the next line was looked for
   pub so_far_found : (s : Setup) (a : List ℕ) (x : System X V) (excerpt : Excerpt) (first n : ℕ) (h h1 h2 : Hand) (left left1 left2 : Option (List ℕ))
       → ((input : List ℕ) (front : List (List ℕ)) → Follows input front h1 left1 → Follows input front h2 left2)
       → KeptSoFar s a x excerpt first n h h1 left left1 → KeptSoFar s a x excerpt first n h h2 left left2
-  so_far_found s a x excerpt first n h h1 h2 left left1 left2 finds so = record {
-    given = so.given;
-    keeps = so.keeps;
-    follows = λ input front follows. finds input (front ++ so.given) (so.follows input front follows);
-  }
+  so_far_found s a x excerpt first n h h1 h2 left left1 left2 finds so = search rules
 
   -- .. and was played
   pub so_far_played : (s : Setup) (a : List ℕ) (x x' : System X V) (excerpt excerpt' : Excerpt) (line : List ℕ) (first n : ℕ) (h h1 h2 : Hand)
@@ -58,13 +48,7 @@ module _ {X : Type 0} {V : X → Type 0} (driver : Plug X V → Driver) where
       → line ≡ line_of h1
       → (so : KeptSoFar s a x excerpt first n h h1 left left') → KeepsOn driver s a x' excerpt' (with_line (progress_of first n so.given) line)
       → KeptSoFar s a x' excerpt' first (n + 1) h h2 left left'
-  so_far_played s a x x' excerpt excerpt' line first n h h1 h2 left left' passes same so keeps = record {
-    given = so.given ++ line ∷ [];
-    keeps = keeps;
-    follows = λ input front follows.
-        subst (λ (f : List (List ℕ)). Follows input f h2 left') (ap (λ l. (front ++ so.given) ++ l ∷ []) (sym same) ∙ append_assoc front so.given (line ∷ []))
-        (passes input (front ++ so.given) left' (so.follows input front follows));
-  }
+  so_far_played s a x x' excerpt excerpt' line first n h h1 h2 left left' passes same so keeps = grind (arith, common_steps)
 
   -- ---- the end: what is kept of all looked-at lines
 
@@ -75,15 +59,12 @@ module _ {X : Type 0} {V : X → Type 0} (driver : Plug X V → Driver) where
   kept_by : (s : Setup) (a : List ℕ) (first : ℕ) (front given more rest : List (List ℕ)) (input : List ℕ) (over : Bool) (kept : Result (List ℕ) Ending)
       → scanned_lines input ≡ front ++ more → scanned_lines input ≡ front ++ (given ++ rest) → is_overlong input ≡ over
       → kept_of_lines s a (last_ending over) first (given ++ rest) ≡ kept → Kept s a first input more kept
-  kept_by s a first front given more rest input over kept looked lines long is =
-      ap (λ (o : Bool). kept_of_lines s a (last_ending o) first more) long
-      ∙ ap (λ (ls : List (List ℕ)). kept_of_lines s a (last_ending over) first ls) (same_rest front more (given ++ rest) (sym looked ∙ lines)) ∙ is
+  kept_by s a first front given more rest input over kept looked lines long is = search (rules, same_rest)
 
   pub takes_so : (s : Setup) (a : List ℕ) (x : System X V) (excerpt : Excerpt) (first n : ℕ) (h h' : Hand) (left left' : Option (List ℕ))
       (front : List (List ℕ)) (input : List ℕ)
       → IsHand h' → Follows input front h left → KeptSoFar s a x excerpt first n h h' left left' → TakesAtMost input (input_limit + 1) left'
-  takes_so s a x excerpt first n h h' left left' front input is follows so =
-      takes_at_most input (front ++ so.given) h' left' is (so.follows input front follows)
+  takes_so s a x excerpt first n h h' left left' front input is follows so = search (rules, takes_at_most)
 
   pub kept_done : KeptGoesOn → (s : Setup) (a : List ℕ) (x : System X V) (excerpt : Excerpt) (first n : ℕ) (h h' : Hand) (left left' : Option (List ℕ))
       (front more : List (List ℕ)) (input : List ℕ)
@@ -113,9 +94,7 @@ module _ {X : Type 0} {V : X → Type 0} (driver : Plug X V → Driver) where
       → Kept s a first input more (Err (Refused n why))
   kept_refused s a x excerpt line first n h h' left left' front more input why is has follows looked same so refused =
       let next = next_line input (front ++ so.given) h' left' is has (so.follows input front follows) in
-      let begins : scanned_lines input ≡ front ++ (so.given ++ (line ∷ next.more)) =
-      next.parts ∙ append_assoc (front ++ so.given) (line_of h' ∷ []) next.more ∙ ap (λ l. (front ++ so.given) ++ l ∷ next.more) (sym same)
-      ∙ append_assoc front so.given (line ∷ next.more) in
+      let begins : scanned_lines input ≡ front ++ (so.given ++ (line ∷ next.more)) = grind (arith, common_steps) in
       kept_by s a first front so.given more (line ∷ next.more) input (is_overlong input) (Err (Refused n why)) looked begins refl
       (refused (last_ending (is_overlong input)) next.more)
 
@@ -131,10 +110,6 @@ module _ {X : Type 0} {V : X → Type 0} (driver : Plug X V → Driver) where
 
 -- ---- by the head of the input
 
-kept_head : (a : List ℕ) (drivers : List Driver) (count : ℕ) (input : List ℕ) (head : Head) → count ≡ length drivers → head_of count input ≡ head
-    → kept_of a drivers input ≡ kept_of_head a drivers (is_overlong input) head
-kept_head a drivers count input head many is = ap (kept_of_head a drivers (is_overlong input)) (sym (ap (λ (n : ℕ). head_of n input) many) ∙ is)
-
 pub kept_described : (a : List ℕ) (drivers : List Driver) (count : ℕ) (desc : Description) (first : ℕ) (input : List ℕ) (h : Hand)
     (left left' : Option (List ℕ)) {B E : Type 0} (bytes : B → Result (List ℕ) Ending) (r : Result B E)
     → count ≡ length drivers → IsHand h → EndsAt count desc first input h left
@@ -142,24 +117,7 @@ pub kept_described : (a : List ℕ) (drivers : List Driver) (count : ℕ) (desc 
     → IfOk r (λ kept. kept_of_lines (record { desc = desc; drivers = drivers }) a (last_ending (is_overlong input)) first more ≡ bytes kept)
     × TakesAtMost input (input_limit + 1) left')
     → IfOk r (λ kept. kept_of a drivers input ≡ bytes kept) × TakesAtMost input (input_limit + 1) left'
-kept_described a drivers count desc first input h left left' {B = B} {E = E} bytes r many is ends keeps =
-    let begins = follows_begin input ends.front h left is ends.follows in
-    let head : head_of count input ≡ Described desc first begins.more =
-    ap (head_from (is_overlong input) (new_reader count) 1) begins.parts ∙ ends.head (is_overlong input) begins.more in
-    let same = kept_head a drivers count input (Described desc first begins.more) many head in
-    let run = keeps ends.front begins.more ends.follows begins.parts in
-    (by r same run.0, run.1)
-  where
-    by : {w : Result (List ℕ) Ending} (r : Result B E) → kept_of a drivers input ≡ w → IfOk r (λ kept. w ≡ bytes kept)
-        → IfOk r (λ kept. kept_of a drivers input ≡ bytes kept)
-    by (Ok x) same is = same ∙ is
-    by (Err e) same is = tt
-
-kept_alone : (a : List ℕ) (drivers : List Driver) (count : ℕ) (desc : Description) (input : List ℕ) → count ≡ length drivers → EndsAlone count desc input
-    → kept_of a drivers input ≡ Ok []
-kept_alone a drivers count desc input many alone =
-    kept_head a drivers count input (Described desc alone.next []) many alone.head
-    ∙ ap (λ (o : Bool). kept_of_head a drivers o (Described desc alone.next [])) alone.short
+kept_described a drivers count desc first input h left left' bytes r many is ends keeps = search (rules, follows_begin)
 
 -- ---- if the source is visible
 
@@ -167,24 +125,20 @@ module _ (a : List ℕ) (drivers : List Driver) (count : ℕ) where
   pub told_alone : (desc : Description) (text : List ℕ) (left : Option (List ℕ)) → count ≡ length drivers → text ≡ []
       → IfSome left (λ input. EndsAlone count desc input)
       → IfSome left (λ input. kept_of a drivers input ≡ Ok text)
-  told_alone desc text None many empty alone = tt
-  told_alone desc text (Some input) many empty alone = kept_alone a drivers count desc input many alone ∙ ap (λ (t : List ℕ). Ok t) (sym empty)
+  told_alone desc text left many empty alone = search rules
 
   pub told_faulty : (line : ℕ) (why : Why) (left left' : Option (List ℕ)) → count ≡ length drivers
       → IfSome left (λ input. RefusesAt count (read.Refused line why) line input left')
       → IfSome left (λ input. kept_of a drivers input ≡ Err (Refused line why))
-  told_faulty line why None left' many refuses = tt
-  told_faulty line why (Some input) left' many refuses = kept_head a drivers count input (Faulty (Line line why)) many refuses.head
+  told_faulty line why left left' many refuses = search rules
 
   pub told_cut : (left : Option (List ℕ)) → count ≡ length drivers → IfSome left (λ input. head_of count input ≡ Cut)
       → IfSome left (λ input. kept_of a drivers input ≡ Err TooLong)
-  told_cut None many cut = tt
-  told_cut (Some input) many cut = kept_head a drivers count input Cut many cut
+  told_cut left many cut = search rules
 
 pub takes_kept : (left left' : Option (List ℕ)) → IfSome left (λ input. TakesBlocks input left')
     → IfSome left (λ input. TakesAtMost input (input_limit + 1) left')
-takes_kept None left' takes = tt
-takes_kept (Some input) left' takes = takes_of input left' takes
+takes_kept left left' takes = search rules
 
 module _ {B E : Type 0} (bytes : B → Result (List ℕ) Ending) (a : List ℕ) (drivers : List Driver) (count : ℕ) (desc : Description) (first : ℕ) (h : Hand) where
   -- what a script kept, whatever lines came before it
@@ -196,12 +150,10 @@ module _ {B E : Type 0} (bytes : B → Result (List ℕ) Ending) (a : List ℕ) 
 
   told_kept : (input : List ℕ) (r : Result B E) → IfOk r (λ kept. kept_of a drivers input ≡ bytes kept)
       → IfOk r (λ kept. IfSome (Some input) (λ xs. kept_of a drivers xs ≡ bytes kept))
-  told_kept input (Ok x) is = is
-  told_kept input (Err e) is = tt
+  told_kept input r is = search rules
 
   untold : (r : Result B E) → IfOk r (λ kept. IfSome None (λ xs. kept_of a drivers xs ≡ bytes kept))
-  untold (Ok x) = tt
-  untold (Err e) = tt
+  untold r = search rules
 
   pub both_kept : (left left1 left2 : Option (List ℕ)) (r : Result B E) → count ≡ length drivers → IsHand h
       → IfSome left (λ input. EndsAt count desc first input h left1)

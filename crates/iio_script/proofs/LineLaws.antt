@@ -1,20 +1,18 @@
 -- The lines of a text that is read further: its front, its last line, and the line that its end cuts off.
-use Rattle.std.proofs.Common.{◌≡◌, ℕ, ◌+◌, ◌<◌, Bool, true, false, ◌||◌, ◌⊎◌, cond, List, [], ◌∷◌, ◌++◌, length, take, drop, reverse, refl, sym, ap, ◌∙◌, inl, inr, arith, subst, append_assoc}
-use Rattle.std.proofs.Math.Seq.{drop-append-add}
-use Rattle.std.proofs.lemmas.Bool.{false≢true}
-use Rattle.std.proofs.lemmas.List.{reverse-append, reverse-reverse, length-append, take-append-drop}
+use Rattle.std.proofs.Common.{◌≡◌, ℕ, ◌+◌, ◌<◌, Bool, true, false, ◌||◌, ◌⊎◌, cond, List, [], ◌∷◌, ◌++◌, length, take, drop, reverse, refl, sym, ap, ◌∙◌, inl, inr, arith, subst, append_assoc, rules}
+use Rattle.std.proofs.lemmas.Grind.{common_steps}
+use Rattle.std.proofs.lemmas.List.{reverse-append, length-append, take-append-drop}
 use Rattle.std.proofs.lemmas.List.Folds.{list_any-append}
 use Rattle.std.specs.List.{list_any}
-use Rattle.iio_text.specs.Lines.{fits_line, is_line_end, onto_line, lines_of}
-use Rattle.iio_history.specs.Input.{cut_line, ended_part, from_line_end, told_part}
+use Rattle.iio_text.specs.Lines.{is_line_end, onto_line, lines_of}
+use Rattle.iio_history.specs.Input.{ended_part, from_line_end, told_part}
 use Rattle.iio_script.specs.LineReader.{IsFront, IsPlain, ended_size}
 
 -- ---- a text without an LF
 
 -- its first byte, and those after it
 plain_head : (t : Bool) (rest : Bool) → (t || rest) ≡ false → (t ≡ false) × (rest ≡ false)
-plain_head true rest h = absurd (false≢true (sym h))
-plain_head false rest h = (refl, h)
+plain_head t rest h = search rules
 
 pub plain_append : (a b : List ℕ) → IsPlain a → IsPlain b → IsPlain (a ++ b)
 plain_append a b p q = list_any-append is_line_end a b ∙ rw (p, q) refl
@@ -49,8 +47,7 @@ pub record BeginsWith (front : List ℕ) (lines : List (List ℕ)) : Type 0 wher
   pub parts : lines ≡ (front ++ rest) ∷ more
 
 begins_with : (b : ℕ) (lines : List (List ℕ)) → BeginsWith (b ∷ []) (onto_line b lines)
-begins_with b [] = record { rest = []; more = []; parts = refl }
-begins_with b (l ∷ ls) = record { rest = l; more = ls; parts = refl }
+begins_with b lines = search rules
 
 begins_longer : (b : ℕ) (front : List ℕ) (lines : List (List ℕ)) → BeginsWith front lines → BeginsWith (b ∷ front) (onto_line b lines)
 begins_longer b front lines begins = record { rest = begins.rest; more = begins.more; parts = ap (onto_line b) begins.parts }
@@ -66,8 +63,7 @@ lines_begin (b ∷ c ∷ cs) more plain some =
 
 from_step : (t : Bool) (b : ℕ) (u v : List ℕ) → from_line_end (u ++ 10 ∷ v) ≡ from_line_end u ++ 10 ∷ v
     → cond t (b ∷ u ++ 10 ∷ v) (from_line_end (u ++ 10 ∷ v)) ≡ cond t (b ∷ u) (from_line_end u) ++ 10 ∷ v
-from_step true b u v h = refl
-from_step false b u v h = h
+from_step t b u v h = search rules
 
 from_end : (u v : List ℕ) → from_line_end (u ++ 10 ∷ v) ≡ from_line_end u ++ 10 ∷ v
 from_end [] v = refl
@@ -89,12 +85,7 @@ pub ended_none : (text : List ℕ) → IsPlain text → ended_part text ≡ []
 ended_none text plain = ap reverse (from_none (reverse text) (plain_reverse text plain))
 
 pub ended_behind : (line more : List ℕ) → ended_part (line ++ 10 ∷ more) ≡ (line ++ 10 ∷ []) ++ ended_part more
-ended_behind line more =
-    let back : reverse (line ++ 10 ∷ more) ≡ reverse more ++ 10 ∷ reverse line =
-    ap reverse (sym (append_assoc line (10 ∷ []) more)) ∙ reverse-append (line ++ 10 ∷ []) more ∙ ap (λ u. reverse more ++ u) (reverse-append line (10 ∷ [])) in
-    ap (λ u. reverse (from_line_end u)) back ∙ ap reverse (from_end (reverse more) (reverse line))
-    ∙ reverse-append (from_line_end (reverse more)) (10 ∷ reverse line)
-    ∙ ap (λ u. u ++ ended_part more) (reverse-append (10 ∷ []) (reverse line) ∙ ap (λ u. u ++ 10 ∷ []) (reverse-reverse line))
+ended_behind line more = grind (arith, common_steps, from_end)
 
 -- ---- a text with an LF, and one without
 
@@ -126,21 +117,9 @@ front_more bytes line front is plain = record {
       ap lines_of (append_assoc bytes (line ++ 10 ∷ []) more) ∙ is.lines ((line ++ 10 ∷ []) ++ more)
       ∙ ap (λ text. front ++ lines_of text) (append_assoc line (10 ∷ []) more) ∙ ap (λ ls. front ++ ls) (lines_ended line more plain)
       ∙ sym (append_assoc front (line ∷ []) (lines_of more));
-  ended = λ more.
-      ap ended_part (append_assoc bytes (line ++ 10 ∷ []) more) ∙ is.ended ((line ++ 10 ∷ []) ++ more)
-      ∙ ap (λ text. bytes ++ ended_part text) (append_assoc line (10 ∷ []) more) ∙ ap (λ text. bytes ++ text) (ended_behind line more)
-      ∙ sym (append_assoc bytes (line ++ 10 ∷ []) (ended_part more));
+  ended = grind (arith, common_steps, ended_behind);
   size = omega (arith, ended_size-append front (line ∷ []), is.size, length-append bytes (line ++ 10 ∷ []), length-append line (10 ∷ []));
 }
 
-cut_front : (bytes more : List ℕ) (front : List (List ℕ)) → IsFront bytes front → cut_line (bytes ++ more) ≡ cut_line more
-cut_front bytes more front is =
-    ap (λ text. drop (length text) (bytes ++ more)) (is.ended more)
-    ∙ ap (λ n. drop n (bytes ++ more)) (length-append bytes (ended_part more)) ∙ drop-append-add bytes more (length (ended_part more))
-
 pub told_front : (bytes more : List ℕ) (front : List (List ℕ)) → IsFront bytes front → told_part (bytes ++ more) ≡ bytes ++ told_part more
-told_front bytes more front is = rw (cut_front bytes more front is, is.ended more) (by_fits (fits_line (cut_line more)))
-  where
-    by_fits : (t : Bool) → cond t (bytes ++ ended_part more) (bytes ++ more) ≡ bytes ++ cond t (ended_part more) more
-    by_fits true = refl
-    by_fits false = refl
+told_front bytes more front is = grind (arith, common_steps)

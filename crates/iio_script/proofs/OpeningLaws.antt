@@ -1,10 +1,10 @@
 -- The description at the head of an input: what a reader's answers show of it.
-use Rattle.std.proofs.Common.{◌≡◌, ℕ, ◌+◌, Bool, true, false, cond, List, [], ◌∷◌, ◌++◌, length, Option, None, Some, IfSome, Result, Ok, Err, refl, sym, ap, ◌∙◌, arith, subst, append_assoc, append-nil, length-append}
+use Rattle.std.proofs.Common.{◌≡◌, ℕ, ◌+◌, Bool, true, false, cond, List, [], ◌∷◌, ◌++◌, length, Option, None, Some, IfSome, Result, Ok, Err, refl, sym, ap, ◌∙◌, arith, subst, append_assoc, append-nil, length-append, rules}
+use Rattle.std.proofs.lemmas.Grind.{common_steps}
 use Rattle.std.specs.Prelude.{IfOk, IsOk}
 use Rattle.iio_io.specs.declared.whole.ReadEnd.{ReadEnd}
 use Rattle.std.specs.List.{list_any}
 use Rattle.std.proofs.lemmas.Bool.{false≢true}
-use Rattle.std.proofs.lemmas.List.Folds.{list_any-append}
 use Rattle.iio_text.specs.declared.refusals.Why.{Why}
 use Rattle.iio_text.specs.declared.refusals.Why.TheVariants.{Long}
 use Rattle.iio_text.specs.Lines.{fits_line}
@@ -30,20 +30,12 @@ use Rattle.iio_script.proofs.TakenLaws.{takes_blocks}
 -- a line that ends the description
 pub ends_at : (overlong : Bool) (reader : Reader) (n : ℕ) (line : List ℕ) (lines : List (List ℕ)) → is_end line ≡ true
     → head_from overlong reader n (line ∷ lines) ≡ described (n + 1) lines (ended_by reader line)
-ends_at overlong (Ok reading) n line lines ends = rw ends refl
-ends_at overlong (Err fault) n line lines ends = refl
-
--- one more line
-pub goes_on : (overlong : Bool) (reader : Reader) (n : ℕ) (line : List ℕ) (lines : List (List ℕ)) → is_end line ≡ false
-    → head_from overlong reader n (line ∷ lines) ≡ head_from overlong (after_line reader line) (n + 1) lines
-goes_on overlong (Ok reading) n line lines other = rw other refl
-goes_on overlong (Err fault) n line lines other = refl
+ends_at overlong reader n line lines ends = search rules
 
 -- a line that is refused
 pub refused_at : (overlong : Bool) (reader : Reader) (n m : ℕ) (why : Why) (line : List ℕ) (lines : List (List ℕ)) → is_end line ≡ false
     → after_line reader line ≡ Err (Line m why) → head_from overlong reader n (line ∷ lines) ≡ Faulty (Line m why)
-refused_at overlong reader n m why line lines other refused =
-    goes_on overlong reader n line lines other ∙ ap (λ (r : Reader). head_from overlong r (n + 1) lines) refused
+refused_at overlong reader n m why line lines other refused = search rules
 
 -- a line that is too long, whatever it says
 pub too_long : (overlong : Bool) (reader : Reader) (n : ℕ) (line : List ℕ) (lines : List (List ℕ)) → IsOk reader → line_count reader + 1 ≡ n
@@ -54,17 +46,14 @@ too_long overlong (Ok reading) n text lines ok count long = by_end (is_end text)
   where
     by_end : (t : Bool) → cond t (described (n + 1) lines (ended_by (Ok reading) text)) (head_from overlong (after_line (Ok reading) text) (n + 1) lines)
         ≡ Faulty (Line n Long)
-    by_end true = rw long (ap (λ k. Faulty (Line k Long)) count)
-    by_end false = rw long (ap (λ k. Faulty (Line k Long)) count)
+    by_end t = search rules
 
 -- the input's end
 pub ends_after : (reader : Reader) (n : ℕ) → head_from false reader n [] ≡ described n [] (finished reader)
-ends_after (Ok reading) n = refl
-ends_after (Err fault) n = refl
+ends_after reader n = search rules
 
 pub cut_after : (reader : Reader) (n : ℕ) → IsOk reader → head_from true reader n [] ≡ Cut
-cut_after (Ok reading) n ok = refl
-cut_after (Err fault) n ok = absurd (false≢true ok)
+cut_after reader n ok = search rules
 
 -- ---- the number of a refused line
 
@@ -73,8 +62,7 @@ number_of n (Err (Line m why)) = m
 number_of n read = n
 
 number_at : {A : Type 0} (n : ℕ) (read : Result A Why) → number_of n (at_line n read) ≡ n
-number_at n (Ok x) = refl
-number_at n (Err why) = refl
+number_at n read = search rules
 
 pub end_number : (reader : Reader) (line : List ℕ) (m : ℕ) (why : Why) → IsOk reader → ended_by reader line ≡ Err (Line m why) → m ≡ line_count reader + 1
 end_number (Err fault) line m why ok refused = absurd (false≢true ok)
@@ -106,20 +94,6 @@ pub record ReadsFront (drivers : ℕ) (reader : Reader) (number : ℕ) (front : 
   pub count : number ≡ length front + 1
   pub ends : list_any is_end front ≡ false
 
-pub reads_first : (drivers : ℕ) → ReadsFront drivers (new_reader drivers) 1 []
-reads_first drivers = record { head = λ overlong more. refl; count = refl; ends = refl }
-
-pub reads_more : (drivers : ℕ) (reader : Reader) (number : ℕ) (front : List (List ℕ)) (line : List ℕ) → is_end line ≡ false
-    → ReadsFront drivers reader number front
-    → ReadsFront drivers (after_line reader line) (number + 1) (front ++ line ∷ [])
-reads_more drivers reader number front line other reads = record {
-  head = λ overlong more.
-      ap (head_from overlong (new_reader drivers) 1) (append_assoc front (line ∷ []) more) ∙ reads.head overlong (line ∷ more)
-      ∙ goes_on overlong reader number line more other;
-  count = omega (arith, reads.count, length-append front (line ∷ []));
-  ends = list_any-append is_end front (line ∷ []) ∙ rw (reads.ends, other) refl;
-}
-
 -- a reader that has reached that line of an input
 pub record OpensSoFar (drivers : ℕ) (reader : Reader) (number : ℕ) (h h' : Hand) (left left' : Option (List ℕ)) : Type 0 where
   pub front : List (List ℕ)
@@ -127,20 +101,12 @@ pub record OpensSoFar (drivers : ℕ) (reader : Reader) (number : ℕ) (h h' : H
   pub follows : (input : List ℕ) → Follows input [] h left → Follows input front h' left'
 
 pub opens_first : (drivers : ℕ) (reader : Reader) (h : Hand) (left : Option (List ℕ)) → reader ≡ new_reader drivers → OpensSoFar drivers reader 1 h h left left
-opens_first drivers reader h left is = record {
-  front = [];
-  reads = subst (λ (r : Reader). ReadsFront drivers r 1 []) (sym is) (reads_first drivers);
-  follows = λ input follows. follows;
-}
+opens_first drivers reader h left is = search rules
 
 pub opens_found : (drivers : ℕ) (reader : Reader) (number : ℕ) (h h1 h2 : Hand) (left l1 l2 : Option (List ℕ))
     → ((input : List ℕ) (front : List (List ℕ)) → Follows input front h1 l1 → Follows input front h2 l2) → OpensSoFar drivers reader number h h1 left l1
     → OpensSoFar drivers reader number h h2 left l2
-opens_found drivers reader number h h1 h2 left l1 l2 keeps so = record {
-  front = so.front;
-  reads = so.reads;
-  follows = λ input follows. keeps input so.front (so.follows input follows);
-}
+opens_found drivers reader number h h1 h2 left l1 l2 keeps so = search rules
 
 pub opens_more : (drivers : ℕ) (reader reader' : Reader) (number : ℕ) (line : List ℕ) (h h1 h2 : Hand) (left l : Option (List ℕ))
     → ((input : List ℕ) (front : List (List ℕ)) (l : Option (List ℕ)) → Follows input front h1 l → Follows input (front ++ line_of h1 ∷ []) h2 l)
@@ -149,9 +115,7 @@ pub opens_more : (drivers : ℕ) (reader reader' : Reader) (number : ℕ) (line 
     → OpensSoFar drivers reader' (number + 1) h h2 left l
 opens_more drivers reader reader' number line h h1 h2 left l passes same other read so = record {
   front = so.front ++ line ∷ [];
-  reads =
-      subst (λ (r : Reader). ReadsFront drivers r (number + 1) (so.front ++ line ∷ [])) (sym read)
-      (reads_more drivers reader number so.front line other so.reads);
+  reads = grind (arith, common_steps);
   follows = λ input follows. subst (λ (t : List ℕ). Follows input (so.front ++ t ∷ []) h2 l) (sym same) (passes input so.front l (so.follows input follows));
 }
 
@@ -169,17 +133,13 @@ opens_taken drivers reader number h h' (Some input) left' empty is so =
 followed : (P : List ℕ → Type 0) (drivers : ℕ) (reader : Reader) (number : ℕ) (h h' : Hand) (left left' : Option (List ℕ)) → h ≡ empty_hand
     → (so : OpensSoFar drivers reader number h h' left left')
     → ((input : List ℕ) → Follows input so.front h' left' → P input) → IfSome left P
-followed P drivers reader number h h' None left' empty so each = tt
-followed P drivers reader number h h' (Some input) left' empty so each =
-    each input (so.follows input (subst (λ (x : Hand). Follows input [] x (Some input)) (sym empty) (follows_first input)))
+followed P drivers reader number h h' left left' empty so each = search (rules, follows_first)
 
 -- the head of an input that goes on like this
 head_at : (drivers : ℕ) (reader : Reader) (number : ℕ) (front rest : List (List ℕ)) (input : List ℕ) (overlong : Bool) → ReadsFront drivers reader number front
     → scanned_lines input ≡ front ++ rest
     → is_overlong input ≡ overlong → head_of drivers input ≡ head_from overlong reader number rest
-head_at drivers reader number front rest input overlong reads looked long =
-    ap (head_from (is_overlong input) (new_reader drivers) 1) looked ∙ reads.head (is_overlong input) rest
-    ∙ ap (λ (o : Bool). head_from o reader number rest) long
+head_at drivers reader number front rest input overlong reads looked long = search rules
 
 pub opens_failed : (drivers : ℕ) (reader : Reader) (number : ℕ) (h h' : Hand) (left left' : Option (List ℕ)) → h ≡ empty_hand → IsHand h' → NeedsMore h'
     → IsOk reader
@@ -227,8 +187,7 @@ pub opens_line : (drivers : ℕ) (reader : Reader) (number m : ℕ) (why : Why) 
 opens_line drivers reader number m why line h h' left left' empty is has ok lines same other refused so =
     followed (λ input. RefusesAt drivers (Refused m why) m input left') drivers reader number h h' left left' empty so
     (λ input follows. let next = next_line input so.front h' left' is has follows in
-    let looked : scanned_lines input ≡ so.front ++ line ∷ next.more =
-    next.parts ∙ append_assoc so.front (line_of h' ∷ []) next.more ∙ ap (λ l. so.front ++ l ∷ next.more) (sym same) in
+    let looked : scanned_lines input ≡ so.front ++ line ∷ next.more = grind (arith, common_steps) in
     let at : m ≡ length so.front + 1 = line_number reader line m why ok refused ∙ lines ∙ so.reads.count in
     record {
       head = head_at drivers reader number so.front (line ∷ next.more) input (is_overlong input) so.reads looked refl
@@ -267,8 +226,7 @@ pub opens_at : (drivers : ℕ) (reader : Reader) (number : ℕ) (opening : Openi
 opens_at drivers reader number opening line h h1 h2 left left' empty is has same ends says at ended passes so =
     followed (λ input. Opens drivers opening input h2 left') drivers reader number h h1 left left' empty so
     (λ input follows. let next = next_line input so.front h1 left' is has follows in
-    let looked : scanned_lines input ≡ so.front ++ line ∷ next.more =
-    next.parts ∙ append_assoc so.front (line_of h1 ∷ []) next.more ∙ ap (λ l. so.front ++ l ∷ next.more) (sym same) in
+    let looked : scanned_lines input ≡ so.front ++ line ∷ next.more = grind (arith, common_steps) in
     let head : (overlong : Bool) (more : List (List ℕ))
     → head_from overlong (new_reader drivers) 1 ((so.front ++ line_of h1 ∷ []) ++ more) ≡ told number more opening =
     (λ overlong more. ap (head_from overlong (new_reader drivers) 1) (append_assoc so.front (line_of h1 ∷ []) more ∙ ap (λ l. so.front ++ l ∷ more) (sym same))
@@ -285,8 +243,7 @@ opens_at drivers reader number opening line h h1 h2 left left' empty is has same
         → Follows input front h2 left' → number + 1 ≡ length front + 1 → IsRefusedAt number opening → IsEnded number opening
         → ((m : ℕ) → m ≡ number → TakesNear m input left')
         → Opens drivers opening input h2 left'
-    by_opening (Described desc first) input more front head heads follows next at ended close =
-        record { front = front; follows = follows; next = ended ∙ next; head = heads; behind = more; whole = head }
+    by_opening (Described desc first) input more front head heads follows next at ended close = search rules
     by_opening (Alone desc) input more front head heads follows next at ended close = absurd ended
     by_opening (Refused line why) input more front head heads follows next at ended close = record { head = head; near = close line at }
     by_opening read.Cut input more front head heads follows next at ended close = head

@@ -1,25 +1,23 @@
 -- What a run over an input has printed, from what its parts did.
-use Rattle.std.proofs.Common.{◌≡◌, ℕ, ◌+◌, Bool, true, List, [], ◌++◌, length, take, Option, Some, None, IfSome, refl, sym, ap, ◌∙◌, inl, inr, subst, arith}
+use Rattle.std.proofs.Common.{◌≡◌, ℕ, ◌+◌, Bool, true, List, [], ◌++◌, length, take, Option, Some, None, IfSome, refl, sym, ap, ◌∙◌, rules}
 use Rattle.iio_io.specs.Bytes.{TakesAtMost}
 use Rattle.iio_text.specs.Lines.{lines_of}
 use Rattle.iio_text.specs.declared.refusals.Why.{Why}
 use Rattle.iio_sensor.specs.Driver.{Driver}
-use Rattle.iio_desc.specs.declared.reader.DescFault.TheVariants.{Line}
 use Rattle.iio_desc.specs.Description.{Description}
 use Rattle.iio_desc.specs.DescReader.{new_reader}
 use Rattle.iio_history.specs.Input.{ended_part, input_limit, is_overlong, scanned_lines}
-use Rattle.iio_history.specs.Outcome.{Cut, Described, Faulty, Head, Outcome, head_from, head_of, last_ending, only_ending, outcome_of, outcome_of_head, outcome_of_script}
+use Rattle.iio_history.specs.Outcome.{Cut, Described, Head, Outcome, head_from, head_of, last_ending, only_ending, outcome_of, outcome_of_head, outcome_of_script}
 use Rattle.iio_history.specs.Script.{script_from}
 use Rattle.iio_history.specs.Script as ending
 use Rattle.iio_script.specs.declared.opening.Opening.TheVariants as read
 use Rattle.iio_script.specs.declared.status.Status.{Status}
 use Rattle.iio_script.specs.declared.status.Status.TheVariants.{Done, Memory, ReadFault, Refused, TooLong, Usage, WriteFault}
 use Rattle.iio_script.specs.Ends.{Finishes, HasStatus, Writes, WritesFront, WritesWhole, status_of}
-use Rattle.iio_script.specs.LineReader.{Follows, Hand, IsHand, TakesBlocks, TakesNear}
-use Rattle.iio_script.specs.Plays.{AnswersScript, EndsScript, FinishesAt, IsFrontOf, IsRefusedOr, Prints, TakesFor, WritesText, start_of}
-use Rattle.iio_script.specs.Taken.{AnswersFirst, EndsRun, Runs, WritesFirst, WritesLines, so_far, whole_lines_of}
+use Rattle.iio_script.specs.LineReader.{Follows, Hand, IsHand, TakesBlocks}
+use Rattle.iio_script.specs.Plays.{AnswersScript, EndsScript, IsFrontOf, IsRefusedOr, Prints, TakesFor, WritesText, start_of}
+use Rattle.iio_script.specs.Taken.{AnswersFirst, EndsRun, Runs, WritesFirst, WritesLines, whole_lines_of}
 use Rattle.iio_script.specs.Told.{EndsAlone, EndsAt, FailsWithin, RefusesAt, TakesUnended}
-use Rattle.iio_script.proofs.AnswerLaws.{unended_none}
 use Rattle.iio_script.proofs.FollowLaws.{follows_begin}
 use Rattle.iio_script.proofs.RunLaws.{nothing_sent}
 
@@ -27,8 +25,7 @@ use Rattle.iio_script.proofs.RunLaws.{nothing_sent}
 
 outcome_by : (drivers : List Driver) (count : ℕ) (input : List ℕ) (head : Head) → count ≡ length drivers → head_of count input ≡ head
     → outcome_of drivers input ≡ outcome_of_head drivers (is_overlong input) head
-outcome_by drivers count input head many is =
-    ap (outcome_of_head drivers (is_overlong input)) (sym (ap (λ (n : ℕ). head_of n input) many) ∙ is)
+outcome_by drivers count input head many is = cc
 
 pub takes_of : (input : List ℕ) (left : Option (List ℕ)) → TakesBlocks input left → TakesAtMost input (input_limit + 1) left
 takes_of input left takes = record { count = takes.count; within = takes.within; rest = takes.rest }
@@ -39,8 +36,7 @@ takes_of input left takes = record { count = takes.count; within = takes.within;
 nothing_before : (drivers : List Driver) (count : ℕ) (taken : List ℕ) → count ≡ length drivers
     → head_from true (new_reader count) 1 (lines_of (ended_part taken)) ≡ Cut
     → whole_lines_of drivers taken ≡ []
-nothing_before drivers count taken many head =
-    ap (so_far drivers) (ap (λ (n : ℕ). head_from true (new_reader n) 1 (lines_of (ended_part taken))) (sym many) ∙ head)
+nothing_before drivers count taken many head = cc
 
 answers_unended : (drivers : List Driver) (count : ℕ) (input text : List ℕ) (left left' : Option (List ℕ)) → count ≡ length drivers
     → TakesUnended count input left → left' ≡ left
@@ -59,27 +55,9 @@ answers_script : (drivers : List Driver) (count : ℕ) (desc : Description) (fir
     → ((overlong : Bool) (lines : List (List ℕ)) → head_from overlong (new_reader count) 1 (front ++ lines) ≡ Described desc first lines)
     → TakesUnended count input left
     → AnswersScript (start_of (record { desc = desc; drivers = drivers }) first front) input text left left' → AnswersFirst drivers input text left'
-answers_script drivers count desc first front input text left left' many heads u (inl same) = answers_unended drivers count input text left left' many u same
-answers_script drivers count desc first front input text left left' many heads u (inr a) = record {
-  count = a.count;
-  rest = a.rest;
-  before = a.before;
-  near = a.near;
-  more = a.more;
-  written = a.written ∙ ap (λ t. t ++ a.more)
-      (sym (ap (so_far drivers)
-      (ap (λ (n : ℕ). head_from true (new_reader n) 1 (lines_of (ended_part (take a.before input)))) (sym many)
-      ∙ ap (head_from true (new_reader count) 1) a.lines ∙ heads true a.given)));
-}
+answers_script drivers count desc first front input text left left' many heads u h1 = search (rules, answers_unended)
 
 -- ---- the outcome says what was printed
-
-front_as : (one other : Outcome) (text : List ℕ) → one ≡ other → IsFrontOf one text → IsFrontOf other text
-front_as one other text same front = subst (λ (o : Outcome). IsFrontOf o text) same front
-
-finishes_as : (one other : Outcome) (status : Status) (input text : List ℕ) (left : Option (List ℕ)) → one ≡ other → FinishesAt one status input text left
-    → FinishesAt other status input text left
-finishes_as one other status input text left same f = subst (λ (o : Outcome). FinishesAt o status input text left) same f
 
 run_of_script : (drivers : List Driver) (count : ℕ) (desc : Description) (first : ℕ) (front more : List (List ℕ)) (input : List ℕ) (status : Status)
     (text : List ℕ) (left : Option (List ℕ))
@@ -89,33 +67,7 @@ run_of_script : (drivers : List Driver) (count : ℕ) (desc : Description) (firs
     → EndsScript (start_of (record { desc = desc; drivers = drivers }) first front)
     (outcome_of_script (record { desc = desc; drivers = drivers }) (script_from desc (last_ending (is_overlong input)) [] first more)) input status text left
     → EndsRun drivers input status text left
-run_of_script drivers count desc first front more input status text left many heads looked ends = by_status status ends
-  where
-    head : head_of count input ≡ Described desc first more
-    head = ap (head_from (is_overlong input) (new_reader count) 1) looked ∙ heads (is_overlong input) more
-
-    same : outcome_of_script (record { desc = desc; drivers = drivers }) (script_from desc (last_ending (is_overlong input)) [] first more)
-        ≡ outcome_of drivers input
-    same = sym (outcome_by drivers count input (Described desc first more) many head)
-
-    by_status : (status : Status) → EndsScript (start_of (record { desc = desc; drivers = drivers }) first front)
-        (outcome_of_script (record { desc = desc; drivers = drivers }) (script_from desc (last_ending (is_overlong input)) [] first more)) input status text
-        left → EndsRun drivers input status text left
-    by_status Done f = finishes_as _ _ Done input text left same f
-    by_status (Refused line why) f = finishes_as _ _ (Refused line why) input text left same f
-    by_status Usage f = finishes_as _ _ Usage input text left same f
-    by_status TooLong f = finishes_as _ _ TooLong input text left same f
-    by_status WriteFault f = front_as _ _ text same f
-    by_status Memory f = front_as _ _ text same f
-    by_status ReadFault f = record {
-      begins = front_as _ _ text same f.begins;
-      count = f.count;
-      rest = f.rest;
-      lines =
-          f.printed ∙ sym (ap (so_far drivers)
-          (ap (λ (n : ℕ). head_from true (new_reader n) 1 (lines_of (ended_part (take f.count input)))) (sym many)
-          ∙ ap (head_from true (new_reader count) 1) f.lines ∙ heads true f.given));
-    }
+run_of_script drivers count desc first front more input status text left many heads looked ends = search rules
 
 pub runs_described : (drivers : List Driver) (count : ℕ) (desc : Description) (first : ℕ) (input : List ℕ) (h : Hand)
     (left left' before after : Option (List ℕ)) (status : Status)
@@ -155,30 +107,6 @@ runs_alone drivers count desc input left before many alone takes unended =
       answers = answers_unended drivers count input [] left left many unended refl;
     }
 
-near_refused : (status : Status) (line : ℕ) (input : List ℕ) (left : Option (List ℕ)) → IsRefusedOr line status → TakesNear line input left
-    → TakesFor status input left
-near_refused (Refused line why) number input left is near = subst (λ (n : ℕ). TakesNear n input left) (sym is) near
-near_refused Done number input left is near = tt
-near_refused Usage number input left is near = tt
-near_refused TooLong number input left is near = tt
-near_refused ReadFault number input left is near = tt
-near_refused WriteFault number input left is near = tt
-near_refused Memory number input left is near = tt
-
-run_of_prints : (drivers : List Driver) (outcome : Outcome) (input : List ℕ) (status : Status) (text : List ℕ) (left : Option (List ℕ))
-    → outcome ≡ outcome_of drivers input → TakesFor status input left
-    → Prints outcome status text → EndsRun drivers input status text left
-run_of_prints drivers outcome input Done text left same near f =
-    finishes_as outcome (outcome_of drivers input) Done input text left same (record { finishes = f; near = near })
-run_of_prints drivers outcome input (Refused line why) text left same near f =
-    finishes_as outcome (outcome_of drivers input) (Refused line why) input text left same (record { finishes = f; near = near })
-run_of_prints drivers outcome input TooLong text left same near f =
-    finishes_as outcome (outcome_of drivers input) TooLong input text left same (record { finishes = f; near = near })
-run_of_prints drivers outcome input Usage text left same near f = absurd f
-run_of_prints drivers outcome input ReadFault text left same near f = absurd f
-run_of_prints drivers outcome input WriteFault text left same near f = front_as outcome (outcome_of drivers input) text same f
-run_of_prints drivers outcome input Memory text left same near f = front_as outcome (outcome_of drivers input) text same f
-
 pub runs_refused : (drivers : List Driver) (count : ℕ) (line : ℕ) (why : Why) (input : List ℕ) (left before after : Option (List ℕ)) (status : Status)
     → count ≡ length drivers
     → RefusesAt count (read.Refused line why) line input left → TakesBlocks input left → TakesUnended count input left → IsRefusedOr line status
@@ -187,22 +115,10 @@ pub runs_refused : (drivers : List Driver) (count : ℕ) (line : ℕ) (why : Why
 runs_refused drivers count line why input left before after status many refuses takes unended at prints = record {
   text = prints.0;
   writes = prints.1;
-  ends =
-      run_of_prints drivers (only_ending (ending.Refused line why)) input status prints.0 left
-      (sym (outcome_by drivers count input (Faulty (Line line why)) many refuses.head))
-      (near_refused status line input left at refuses.near) prints.2;
+  ends = search rules;
   takes = takes_of input left takes;
   answers = answers_unended drivers count input prints.0 left left many unended refl;
 }
-
-cut_near : (status : Status) (input text : List ℕ) (left : Option (List ℕ)) → Prints (only_ending ending.TooLong) status text → TakesFor status input left
-cut_near (Refused line why) input text left f = subst (λ (x : Status). TakesFor x input left) (sym f.ends) tt
-cut_near Done input text left f = tt
-cut_near TooLong input text left f = tt
-cut_near Usage input text left f = tt
-cut_near ReadFault input text left f = tt
-cut_near WriteFault input text left f = tt
-cut_near Memory input text left f = tt
 
 pub runs_cut : (drivers : List Driver) (count : ℕ) (input : List ℕ) (left before after : Option (List ℕ)) (status : Status) → count ≡ length drivers
     → head_of count input ≡ Cut
@@ -212,9 +128,7 @@ pub runs_cut : (drivers : List Driver) (count : ℕ) (input : List ℕ) (left be
 runs_cut drivers count input left before after status many cut takes unended prints = record {
   text = prints.0;
   writes = prints.1;
-  ends =
-      run_of_prints drivers (only_ending ending.TooLong) input status prints.0 left (sym (outcome_by drivers count input Cut many cut))
-      (cut_near status input prints.0 left prints.2) prints.2;
+  ends = search rules;
   takes = takes_of input left takes;
   answers = answers_unended drivers count input prints.0 left left many unended refl;
 }
@@ -229,8 +143,7 @@ runs_failed drivers count input left before many fails takes unended = record {
     begins = record { rest = (outcome_of drivers input).printed; parts = refl };
     count = fails.count;
     rest = fails.rest;
-    lines =
-        sym (ap (so_far drivers) (ap (λ (n : ℕ). head_from true (new_reader n) 1 (lines_of (ended_part (take fails.count input)))) (sym many) ∙ fails.head));
+    lines = cc;
   };
   takes = takes_of input left takes;
   answers = answers_unended drivers count input [] left left many unended refl;
@@ -247,33 +160,24 @@ runs_none drivers count input left before many takes unended = record {
   answers = answers_unended drivers count input [] left left many unended refl;
 }
 
--- nothing was taken
-pub takes_none : (input : List ℕ) → TakesAtMost input (input_limit + 1) (Some input)
-takes_none input = record { count = 0; within = omega arith; rest = refl }
-
 -- nothing was taken, and nothing written
 pub runs_nothing : (drivers : List Driver) (left before : Option (List ℕ)) → IfSome left (λ input. Runs drivers input Memory left before before)
-runs_nothing drivers None before = tt
-runs_nothing drivers (Some input) before =
-    runs_none drivers (length drivers) input (Some input) before refl (takes_none input) (unended_none (length drivers) input)
+runs_nothing drivers left before = search rules
 
 -- ---- if the source is visible
 
 -- what follows of two facts of the input
 pub both_told : (P Q R : List ℕ → Type 0) (left : Option (List ℕ)) → ((input : List ℕ) → P input → Q input → R input) → IfSome left P → IfSome left Q
     → IfSome left R
-both_told P Q R None each p q = tt
-both_told P Q R (Some input) each p q = each input p q
+both_told P Q R left each p q = search rules
 
 -- .. or of three
 pub all_told : (P Q R T : List ℕ → Type 0) (left : Option (List ℕ)) → ((input : List ℕ) → P input → Q input → R input → T input) → IfSome left P → IfSome left Q
     → IfSome left R → IfSome left T
-all_told P Q R T None each p q r = tt
-all_told P Q R T (Some input) each p q r = each input p q r
+all_told P Q R T left each p q r = search rules
 
 pub each_told : (P R : List ℕ → Type 0) (left : Option (List ℕ)) → ((input : List ℕ) → P input → R input) → IfSome left P → IfSome left R
-each_told P R None each p = tt
-each_told P R (Some input) each p = each input p
+each_told P R left each p = search rules
 
 writes_whole : (outcome : Outcome) (status : Status) (xs text : List ℕ) (after : Option (List ℕ)) → Finishes outcome status [] text → after ≡ Some (xs ++ text)
     → WritesWhole xs outcome status after
@@ -287,8 +191,7 @@ writes_by : (drivers : List Driver) (input : List ℕ) (status : Status) (text :
     → EndsRun drivers input status text left
     → after ≡ Some (xs ++ text) → Writes (outcome_of drivers input) xs status after
 writes_by drivers input Done text left xs after f writes = writes_whole (outcome_of drivers input) Done xs text after f.finishes writes
-writes_by drivers input (Refused line why) text left xs after f writes =
-    writes_whole (outcome_of drivers input) (Refused line why) xs text after f.finishes writes
+writes_by drivers input (Refused line why) text left xs after f writes = search rules
 writes_by drivers input TooLong text left xs after f writes = writes_whole (outcome_of drivers input) TooLong xs text after f.finishes writes
 writes_by drivers input Usage text left xs after f writes = absurd f.finishes.end
 writes_by drivers input ReadFault text left xs after f writes = writes_front (outcome_of drivers input) xs text after f.begins writes
@@ -302,13 +205,7 @@ run_writes drivers input status left (Some xs) after run = writes_by drivers inp
 
 status_by : (drivers : List Driver) (input : List ℕ) (status : Status) (text : List ℕ) (left : Option (List ℕ)) → EndsRun drivers input status text left
     → HasStatus (outcome_of drivers input) status
-status_by drivers input Done text left f = f.finishes.ends
-status_by drivers input (Refused line why) text left f = f.finishes.ends
-status_by drivers input TooLong text left f = f.finishes.ends
-status_by drivers input Usage text left f = f.finishes.ends
-status_by drivers input ReadFault text left f = tt
-status_by drivers input WriteFault text left f = tt
-status_by drivers input Memory text left f = tt
+status_by drivers input status text left f = search rules
 
 pub run_status : (drivers : List Driver) (input : List ℕ) (status : Status) (left before after : Option (List ℕ)) → Runs drivers input status left before after
     → HasStatus (outcome_of drivers input) status
@@ -330,17 +227,13 @@ run_near drivers input status left before after run = near_by drivers input stat
 
 lines_by : (drivers : List Driver) (input : List ℕ) (left before after : Option (List ℕ)) → Runs drivers input ReadFault left before after
     → IfSome before (λ xs. WritesLines drivers input xs left after)
-lines_by drivers input left None after run = tt
-lines_by drivers input left (Some xs) after run =
-    record { count = run.ends.count; rest = run.ends.rest; written = run.writes ∙ ap (λ t. Some (xs ++ t)) run.ends.lines }
+lines_by drivers input left before after run = search rules
 
 pub run_lines : (drivers : List Driver) (input : List ℕ) (status : Status) (left before after : Option (List ℕ)) → status ≡ ReadFault
     → Runs drivers input status left before after
     → IfSome before (λ xs. WritesLines drivers input xs left after)
-run_lines drivers input status left before after is run =
-    lines_by drivers input left before after (subst (λ (x : Status). Runs drivers input x left before after) is run)
+run_lines drivers input status left before after is run = search (rules, lines_by)
 
 pub run_answers : (drivers : List Driver) (input : List ℕ) (status : Status) (left before after : Option (List ℕ)) → Runs drivers input status left before after
     → IfSome before (λ xs. WritesFirst drivers input xs left after)
-run_answers drivers input status left None after run = tt
-run_answers drivers input status left (Some xs) after run = record { text = run.text; written = run.writes; answers = run.answers }
+run_answers drivers input status left before after run = search rules

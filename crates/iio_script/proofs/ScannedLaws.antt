@@ -1,8 +1,8 @@
 -- The looked-at lines of an input, after a front of it.
-use Rattle.std.proofs.Common.{◌≡◌, ℕ, ◌+◌, ◌-◌, ◌<◌, ◌≤◌, Bool, true, false, ◌⊎◌, cond, List, [], ◌∷◌, ◌++◌, length, take, drop, nat_lt, refl, sym, ap, ◌∙◌, inl, inr, arith, subst, append_assoc, append-nil}
+use Rattle.std.proofs.Common.{◌≡◌, ℕ, ◌+◌, ◌-◌, ◌<◌, ◌≤◌, true, false, ◌⊎◌, cond, List, [], ◌∷◌, ◌++◌, length, take, nat_lt, refl, sym, ap, ◌∙◌, inl, inr, arith, subst, append_assoc, append-nil, rules}
+use Rattle.std.proofs.lemmas.Grind.{common_steps}
 use Rattle.std.proofs.Math.Seq.{take-append-add}
 use Rattle.std.proofs.lemmas.Bool.{cases_lt}
-use Rattle.std.proofs.lemmas.Bool.Decides.{nat_tests}
 use Rattle.std.proofs.lemmas.List.{length-append, length-take}
 use Rattle.iio_text.specs.Lines.{fits_line, lines_of}
 use Rattle.iio_text.specs.declared.lines.TheConstants.{MAX_LINE_BYTES}
@@ -32,16 +32,13 @@ take_front limit bytes rest few =
 -- an input that isn't longer than the limit
 all_within : (limit : ℕ) (input : List ℕ) → length input ≤ limit → lines_within limit input ≡ lines_of input
 unfolding lines_within
-all_within limit input few = let short : nat_lt limit (length input) ≡ false = grind (arith, nat_tests, few) in rw short refl
+all_within limit input few = let short : nat_lt limit (length input) ≡ false = grind (arith, few) in rw short refl
 
 -- a longer input
 part_within : (limit : ℕ) (bytes rest : List ℕ) (front : List (List ℕ)) → IsFront bytes front → length bytes ≤ limit → limit < length (bytes ++ rest)
     → lines_within limit (bytes ++ rest) ≡ front ++ lines_of (told_part (take (limit - length bytes) rest))
 unfolding lines_within
-part_within limit bytes rest front is few over =
-    let long : nat_lt limit (length (bytes ++ rest)) ≡ true = grind (arith, nat_tests, over) in
-    rw (long, take_front limit bytes rest few, told_front bytes (take (limit - length bytes) rest) front is)
-    (is.lines (told_part (take (limit - length bytes) rest)))
+part_within limit bytes rest front is few over = search (rules, take_front, told_front)
 
 begins_within : (limit : ℕ) (bytes rest : List ℕ) (front : List (List ℕ)) → IsFront bytes front → length bytes ≤ limit
     → Begins front (lines_within limit (bytes ++ rest))
@@ -62,7 +59,7 @@ cut_within : (limit : ℕ) (bytes rest : List ℕ) (front : List (List ℕ)) →
 cut_within limit bytes rest front is few over plain short =
     let part : List ℕ = take (limit - length bytes) rest in
     let none : ended_part part ≡ [] = ended_none part plain in
-    let fits : fits_line (cut_line part) ≡ true = rw none (grind (arith, nat_tests, length-take (limit - length bytes) rest, short)) in
+    let fits : fits_line (cut_line part) ≡ true = rw none (grind (arith, length-take (limit - length bytes) rest)) in
     part_within limit bytes rest front is few over
     ∙ rw (fits, none) (append-nil front)
 
@@ -74,12 +71,7 @@ pub record BeginsLong (lines : List (List ℕ)) : Type 0 where
   pub long : fits_line line ≡ false
 
 begins_long : (front : List ℕ) (lines : List (List ℕ)) → BeginsWith front lines → MAX_LINE_BYTES < length front → BeginsLong lines
-begins_long front lines begins long = record {
-  line = front ++ begins.rest;
-  more = begins.more;
-  parts = begins.parts;
-  long = grind (arith, nat_tests, length-append front begins.rest, long);
-}
+begins_long front lines begins long = grind (arith, common_steps)
 
 long_lines : (front more : List ℕ) → IsPlain front → MAX_LINE_BYTES < length front → BeginsLong (lines_of (front ++ more))
 long_lines front more plain long = begins_long front (lines_of (front ++ more)) (lines_begin front more plain (omega (arith, long))) long
@@ -88,23 +80,16 @@ long_lines front more plain long = begins_long front (lines_of (front ++ more)) 
 long_ended : (front more : List ℕ) → IsPlain front → MAX_LINE_BYTES < length front → fits_line (cut_line (front ++ more)) ≡ true → (IsPlain more) ⊎ Parted more
     → BeginsLong (lines_of (ended_part (front ++ more)))
 long_ended front more plain long fits (inl none) =
-    let whole : cut_line (front ++ more) ≡ front ++ more =
-    ap (λ text. drop (length text) (front ++ more)) (ended_none (front ++ more) (plain_append front more plain none)) in
-    absurd (grind (arith, nat_tests, ap fits_line (sym whole) ∙ fits, length-append front more, long))
+    let whole : cut_line (front ++ more) ≡ front ++ more = search (rules, ended_none, plain_append) in
+    absurd (grind (arith, length-append front more))
 long_ended front more plain long fits (inr parted) =
     let line : List ℕ = parted.line in
     let text : front ++ more ≡ (front ++ line) ++ 10 ∷ parted.more = ap (λ m. front ++ m) parted.parts ∙ sym (append_assoc front line (10 ∷ parted.more)) in
-    let part : ended_part (front ++ more) ≡ front ++ (line ++ 10 ∷ ended_part parted.more) =
-    ap ended_part text ∙ ended_behind (front ++ line) parted.more ∙ append_assoc (front ++ line) (10 ∷ []) (ended_part parted.more)
-    ∙ append_assoc front line (10 ∷ ended_part parted.more) in
+    let part : ended_part (front ++ more) ≡ front ++ (line ++ 10 ∷ ended_part parted.more) = grind (arith, common_steps, ended_behind) in
     subst (λ (t : List ℕ). BeginsLong (lines_of t)) (sym part) (long_lines front (line ++ 10 ∷ ended_part parted.more) plain long)
 
 long_told : (front more : List ℕ) → IsPlain front → MAX_LINE_BYTES < length front → BeginsLong (lines_of (told_part (front ++ more)))
-long_told front more plain long = by_fits (fits_line (cut_line (front ++ more))) refl
-  where
-    by_fits : (t : Bool) → fits_line (cut_line (front ++ more)) ≡ t → BeginsLong (lines_of (cond t (ended_part (front ++ more)) (front ++ more)))
-    by_fits true fits = long_ended front more plain long fits (parted more)
-    by_fits false fits = long_lines front more plain long
+long_told front more plain long = search (rules, long_ended, parted, long_lines)
 
 -- the same after a front
 pub record LongBehind (front : List (List ℕ)) (lines : List (List ℕ)) : Type 0 where
@@ -114,20 +99,14 @@ pub record LongBehind (front : List (List ℕ)) (lines : List (List ℕ)) : Type
   pub long : fits_line line ≡ false
 
 long_behind : (front lines all : List (List ℕ)) → all ≡ front ++ lines → BeginsLong lines → LongBehind front all
-long_behind front lines all is begins = record {
-  line = begins.line;
-  more = begins.more;
-  parts = is ∙ ap (λ ls. front ++ ls) begins.parts;
-  long = begins.long;
-}
+long_behind front lines all is begins = search rules
 
 long_within : (limit : ℕ) (bytes line rest : List ℕ) (front : List (List ℕ)) → IsFront bytes front → IsPlain line → MAX_LINE_BYTES < length line
     → length bytes + length line ≤ limit
     → LongBehind front (lines_within limit (bytes ++ (line ++ rest)))
 long_within limit bytes line rest front is plain long few = elim (cases_lt limit (length (bytes ++ (line ++ rest)))) [
   | inl over ↦
-      let part : take (limit - length bytes) (line ++ rest) ≡ line ++ take (limit - length bytes - length line) rest =
-      take_front (limit - length bytes) line rest (omega (arith, few)) in
+      let part : take (limit - length bytes) (line ++ rest) ≡ line ++ take (limit - length bytes - length line) rest = search (rules, take_front) in
       long_behind front (lines_of (told_part (line ++ take (limit - length bytes - length line) rest))) (lines_within limit (bytes ++ (line ++ rest)))
       (part_within limit bytes (line ++ rest) front is (omega (arith, few)) over ∙ ap (λ text. front ++ lines_of (told_part text)) part)
       (long_told line (take (limit - length bytes - length line) rest) plain long)

@@ -1,5 +1,6 @@
 -- The steps of a script, line after line.
-use Rattle.std.proofs.Common.{◌≡◌, ◌⊎◌, ℕ, ◌+◌, Bool, true, false, List, [], ◌∷◌, ◌++◌, length, drop, Option, Some, None, Result, Ok, Err, IfSome, refl, sym, ap, ◌∙◌, inl, inr, subst, arith, append_assoc, append-nil}
+use Rattle.std.proofs.Common.{◌≡◌, ◌⊎◌, ℕ, ◌+◌, Bool, true, false, List, [], ◌∷◌, ◌++◌, length, drop, Option, Some, Result, Ok, Err, IfSome, refl, sym, ap, ◌∙◌, inl, inr, subst, arith, append_assoc, append-nil, rules}
+use Rattle.std.proofs.lemmas.Grind.{common_steps}
 use Rattle.std.proofs.Math.Seq.{drop-append_seam}
 use Rattle.std.proofs.lemmas.List.{length-append}
 use Rattle.iio_io.specs.Bytes.{TakesAtMost}
@@ -43,27 +44,14 @@ Ended s first front more input result kept begin left written written' =
 -- a script that has ended
 ended : (start : Start) (outcome : Outcome) (input : List ℕ) (st : Status) (sent kept : List ℕ) (left : Option (List ℕ))
     → FinishesAt outcome st input (sent ++ kept) left → EndsSteps start outcome input (Ok st) sent kept left
-ended start outcome input status.Done sent kept left f = f
-ended start outcome input (status.Refused line why) sent kept left f = f
-ended start outcome input status.Usage sent kept left f = f
-ended start outcome input status.ReadFault sent kept left f = absurd f.finishes.end
-ended start outcome input status.WriteFault sent kept left f = f
-ended start outcome input status.Memory sent kept left f = f
-ended start outcome input status.TooLong sent kept left f = f
+ended start outcome input st sent kept left f = search rules
 
 -- only a refusal says at which line it is
 near_for : (st : Status) (number : ℕ) (input : List ℕ) (left : Option (List ℕ)) → IsRefusedWith number st → TakesNear number input left → TakesFor st input left
-near_for status.Done number input left is near = tt
-near_for (status.Refused line why) number input left is near = subst (λ (n : ℕ). TakesNear n input left) (sym is) near
-near_for status.Usage number input left is near = tt
-near_for status.ReadFault number input left is near = tt
-near_for status.WriteFault number input left is near = tt
-near_for status.Memory number input left is near = tt
-near_for status.TooLong number input left is near = tt
+near_for st number input left is near = search rules
 
 near_none : (st : Status) (over : Bool) (input : List ℕ) (left : Option (List ℕ)) → st ≡ status_of (last_ending over) → TakesFor st input left
-near_none st true input left is = subst (λ (x : Status). TakesFor x input left) (sym is) tt
-near_none st false input left is = subst (λ (x : Status). TakesFor x input left) (sym is) tt
+near_none st over input left is = search rules
 
 refused_with : (st : Status) (n : ℕ) (why : Why) → st ≡ status.Refused n why → IsRefusedWith n st
 refused_with st n why is = subst (λ (x : Status). IsRefusedWith n x) (sym is) refl
@@ -89,19 +77,7 @@ module _ {X : Type 0} {V : X → Type 0} (driver : Plug X V → Driver) where
   pub so_far_first : (s : Setup) (x : System X V) (kept : List ℕ) (first : ℕ) (h : Hand) (left written : Option (List ℕ)) → kept ≡ []
       → Plays driver s x [] (progress_of first first [])
       → SoFar s x kept first first h h left left written written
-  so_far_first s x kept first h left written none plays = record {
-    given = [];
-    sent = [];
-    writes = told written;
-    plays = subst (λ (t : List ℕ). Plays driver s x t (progress_of first first [])) (sym none) plays;
-    count = omega arith;
-    follows = λ input front follows. subst (λ (f : List (List ℕ)). Follows input f h left) (sym (append-nil front)) follows;
-    answers = λ input front follows. inl refl;
-  }
-    where
-      told : (w : Option (List ℕ)) → IfSome w (λ before. w ≡ Some (before ++ []))
-      told None = tt
-      told (Some xs) = ap Some (sym (append-nil xs))
+  so_far_first s x kept first h left written none plays = search rules
 
   -- some of it was written
   pub so_far_sent : (s : Setup) (x : System X V) (kept kept' : List ℕ) (first n : ℕ) (h h1 h2 : Hand) (left left' written w1 w2 : Option (List ℕ))
@@ -111,9 +87,7 @@ module _ {X : Type 0} {V : X → Type 0} (driver : Plug X V → Driver) where
     given = so.given;
     sent = so.sent ++ sends.sent;
     writes = sends_more written w1 w2 so.sent kept kept' so.writes sends;
-    plays =
-        subst (λ (t : List ℕ). Plays driver s x t (progress_of first n so.given))
-        (ap (λ t. so.sent ++ t) sends.parts ∙ sym (append_assoc so.sent sends.sent kept')) so.plays;
+    plays = grind (arith, common_steps);
     count = so.count;
     follows = λ input front follows. keeps input (front ++ so.given) left' (so.follows input front follows);
     answers = λ input front follows. answers_more (start_of s first front) input so.sent sends.sent left left' (so.answers input front follows);
@@ -136,8 +110,7 @@ module _ {X : Type 0} {V : X → Type 0} (driver : Plug X V → Driver) where
     where
       answers_by : (l2 ≡ l1) ⊎ ((h2.over ≡ false) × (kept ≡ [])) → (input : List ℕ) (front : List (List ℕ)) → Follows input front h left
           → AnswersScript (start_of s first front) input so.sent left l2
-      answers_by (inl same) input front follows =
-          subst (λ (l : Option (List ℕ)). AnswersScript (start_of s first front) input so.sent left l) (sym same) (so.answers input front follows)
+      answers_by (inl same) input front follows = search rules
       answers_by (inr (going, none)) input front follows =
           answers_found (start_of s first front) so.given input so.sent h2 left l2 is
           (sym (append-nil so.sent) ∙ ap (λ k. so.sent ++ k) (sym none) ∙ plays_all driver s x (so.sent ++ kept) _ so.plays) going
@@ -149,17 +122,7 @@ module _ {X : Type 0} {V : X → Type 0} (driver : Plug X V → Driver) where
       → line ≡ line_of h1
       → (so : SoFar s x kept first n h h1 left left' written written') → Plays driver s x' (so.sent ++ kept') (with_line (progress_of first n so.given) line)
       → SoFar s x' kept' first (n + 1) h h2 left left' written written'
-  so_far_played s x x' kept kept' line first n h h1 h2 left left' written written' passes same so plays = record {
-    given = so.given ++ line ∷ [];
-    sent = so.sent;
-    writes = so.writes;
-    plays = plays;
-    count = omega (arith, so.count, length-append so.given (line ∷ []));
-    follows = λ input front follows.
-        subst (λ (f : List (List ℕ)). Follows input f h2 left') (ap (λ l. (front ++ so.given) ++ l ∷ []) (sym same) ∙ append_assoc front so.given (line ∷ []))
-        (passes input (front ++ so.given) left' (so.follows input front follows));
-    answers = so.answers;
-  }
+  so_far_played s x x' kept kept' line first n h h1 h2 left left' written written' passes same so plays = grind (arith, common_steps)
 
   -- ---- the end
 
@@ -210,8 +173,7 @@ module _ {X : Type 0} {V : X → Type 0} (driver : Plug X V → Driver) where
         so.sent,
         so.writes,
         record {
-          begins = subst (λ (ls : List (List ℕ)). IsFrontOf (script_outcome s input first ls) (so.sent ++ kept)) (sym lines)
-              (plays_front driver s x (so.sent ++ kept) _ begins.more (last_ending (is_overlong input)) so.plays);
+          begins = search rules;
           count = _;
           rest = whole.1;
           given = so.given;
@@ -237,9 +199,7 @@ module _ {X : Type 0} {V : X → Type 0} (driver : Plug X V → Driver) where
         so.sent,
         so.writes,
         ended (start_of s first front) (script_outcome s input first more) input st so.sent kept' left' (record {
-          finishes = subst (λ (ls : List (List ℕ)). Finishes (script_outcome s input first ls) st [] (so.sent ++ kept')) (sym lines)
-              (subst (λ (o : Bool). Finishes (outcome_of_script s (script_from s.desc (last_ending o) [] first so.given)) st [] (so.sent ++ kept')) (sym long)
-              finishes);
+          finishes = search rules;
           near = near_none st over input left' f.ends;
         }),
         takes,
@@ -291,16 +251,7 @@ module _ {X : Type 0} {V : X → Type 0} (driver : Plug X V → Driver) where
       → Finishes (script_outcome s input first (so.given ++ line ∷ rest)) st [] (so.sent ++ kept')
       → Ended s first front more input (Ok st) kept' left left' written written'
   refused s x kept kept' first n h h' left left' written written' front more rest line input st looked so begins takes answers near f =
-      let lines : more ≡ so.given ++ line ∷ rest = given_of front so.given more (line ∷ rest) input looked begins in (
-        so.sent,
-        so.writes,
-        ended (start_of s first front) (script_outcome s input first more) input st so.sent kept' left' (record {
-          finishes = subst (λ (ls : List (List ℕ)). Finishes (script_outcome s input first ls) st [] (so.sent ++ kept')) (sym lines) f;
-          near = near;
-        }),
-        takes,
-        answers,
-      )
+      search (rules, given_of)
 
   -- the number of the next line
   next_number : (s : Setup) (x : System X V) (kept : List ℕ) (first n : ℕ) (h h' : Hand) (left left' written written' : Option (List ℕ)) (front : List (List ℕ))
@@ -319,8 +270,7 @@ module _ {X : Type 0} {V : X → Type 0} (driver : Plug X V → Driver) where
   ends_refused s x kept kept' line first n h h' left left' written written' front more input st is has follows at looked same number so f =
       let now = so.follows input front follows in
       let next = next_line input (front ++ so.given) h' left' is has now in
-      let begins : scanned_lines input ≡ (front ++ so.given) ++ line ∷ next.more =
-      next.parts ∙ append_assoc (front ++ so.given) (line_of h' ∷ []) next.more ∙ ap (λ l. (front ++ so.given) ++ l ∷ next.more) (sym same) in
+      let begins : scanned_lines input ≡ (front ++ so.given) ++ line ∷ next.more = grind (arith, common_steps) in
       refused s x kept kept' first n h h' left left' written written' front more next.more line input st looked so begins
       (takes_at_most input (front ++ so.given) h' left' is now) (so.answers input front follows)
       (near_for st n input left' number

@@ -1,9 +1,10 @@
 -- How much a reader has taken of a description.
-use Rattle.std.proofs.Common.{◌≡◌, ℕ, ◌+◌, ◌≤◌, Bool, true, false, ◌||◌, List, [], ◌++◌, length, take, drop, Option, Some, refl, sym, ap, ◌∙◌, inl, inr, arith, append_assoc, append-nil}
+use Rattle.std.proofs.Common.{◌≡◌, ℕ, ◌+◌, ◌≤◌, Bool, true, false, ◌||◌, List, [], ◌++◌, length, take, drop, Option, Some, sym, ap, ◌∙◌, inl, inr, arith, append_assoc, append-nil, rules}
+use Rattle.std.proofs.lemmas.Grind.{common_steps}
 use Rattle.std.proofs.Math.Seq.{take-append_seam}
 use Rattle.std.proofs.lemmas.Bool.{false≢true, cases_lt}
 use Rattle.std.proofs.lemmas.Bool.Decides.{nat_tests}
-use Rattle.std.proofs.lemmas.List.{length-append, length-take-le, take-append-drop, take_all, drop_all}
+use Rattle.std.proofs.lemmas.List.{take-append-drop, take_all, drop_all}
 use Rattle.std.proofs.lemmas.List.Folds.{list_any-append}
 use Rattle.std.specs.List.{list_any}
 use Rattle.iio_text.specs.Lines.{lines_of}
@@ -22,8 +23,7 @@ any_take p n lines none =
     (sym (list_any-append p (take n lines) (drop n lines)) ∙ ap (list_any p) (take-append-drop n lines) ∙ none))
   where
     both : (a b : Bool) → (a || b) ≡ false → a ≡ false
-    both true b h = h
-    both false b h = refl
+    both a b h = search rules
 
 -- the bytes up to where the reader has looked
 scanned_front : (input : List ℕ) (front : List (List ℕ)) (h : Hand) (left : Option (List ℕ)) → IsHand h → (goes : FollowsFront input front h left)
@@ -34,8 +34,7 @@ scanned_front input front h left is goes =
     goes.parts ∙ ap (λ t. goes.bytes ++ t)
     (ap (λ t. t ++ goes.rest) (sym (take-append-drop h.looked h.bytes)) ∙ append_assoc line (drop h.looked h.bytes) goes.rest)
     ∙ sym (append_assoc goes.bytes line (drop h.looked h.bytes ++ goes.rest)) in
-    let size : h.given + h.looked ≡ length (goes.bytes ++ line) =
-    omega (arith, goes.given, length-append goes.bytes line, length-take-le h.looked h.bytes is.looked) in
+    let size : h.given + h.looked ≡ length (goes.bytes ++ line) = grind (arith, common_steps) in
     ap (λ n. take n input) size ∙ ap (take (length (goes.bytes ++ line))) parts ∙ take-append_seam (goes.bytes ++ line) (drop h.looked h.bytes ++ goes.rest)
 
 -- .. whose whole lines are those that were given
@@ -63,14 +62,11 @@ takes_blocks input front h left is none follows =
     record {
       count = taken_of h;
       within = is.within;
-      near = λ m ends. elim (cases_lt (h.given + h.looked) m) [
-        | inl behind ↦ omega (arith, behind, is.near)
-        | inr within ↦ absurd (false≢true (sym no_end ∙ has_end-take input m (h.given + h.looked) within ends))
-      ];
+      near = search (rules, has_end-take);
       rest = taken.1;
     })
     (λ over all.
-    let short : length input ≤ input_limit = grind (arith, nat_tests, all.short) in
+    let short : length input ≤ input_limit = grind (arith, nat_tests) in
     let no_end : has_end input ≡ false = has_end-lines input ∙ any_take is_end (end_count input) (lines_of input) (ap (list_any is_end) all.every ∙ none) in
     record {
       count = length input;

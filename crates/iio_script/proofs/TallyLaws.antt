@@ -1,13 +1,12 @@
 -- The counts of a text, from what its parts did.
-use Rattle.std.proofs.Common.{◌≡◌, ℕ, ◌+◌, Bool, false, List, [], ◌++◌, length, map, Option, Result, Ok, Err, refl, sym, ap, ◌∙◌, subst}
+use Rattle.std.proofs.Common.{◌≡◌, ℕ, ◌+◌, Bool, false, List, [], ◌++◌, length, map, Option, Result, Ok, Err, sym, ap, subst, rules}
 use Rattle.iio_text.specs.declared.refusals.Why.{Why}
 use Rattle.iio_sensor.specs.Driver.{Driver}
 use Rattle.iio_desc.specs.Description.{Description}
-use Rattle.iio_desc.specs.DescReader.{new_reader}
 use Rattle.iio_device.specs.declared.plug.Plug.{Plug}
 use Rattle.iio_history.specs.Input.{is_overlong, scanned_lines}
-use Rattle.iio_history.specs.Outcome.{Head, Described, head_from, head_of, last_ending, outcome_of_head, outcome_of_script}
-use Rattle.iio_history.specs.Script.{Ending, Finished, Script, TooLong, script_from}
+use Rattle.iio_history.specs.Outcome.{Head, Described, head_of, last_ending, outcome_of_head, outcome_of_script}
+use Rattle.iio_history.specs.Script.{Ending, Finished, Script, script_from}
 use Rattle.iio_history.specs.Script as ending
 use Rattle.iio_system.specs.declared.system.System.{System}
 use Rattle.iio_kinds.specs.declared.tally.Tally.{Tally}
@@ -27,17 +26,10 @@ use Rattle.iio_script.proofs.FollowLaws.{follows_begin}
 -- ---- how a script ended, by its status
 
 done_ends : (end : Ending) → Done ≡ status_of end → end ≡ Finished
-done_ends Finished is = refl
-done_ends (ending.Refused line why) is = absurd (cc)
-done_ends TooLong is = absurd (cc)
+done_ends end is = search rules
 
 refused_ends : (line : ℕ) (why : Why) (end : Ending) → Refused line why ≡ status_of end → end ≡ ending.Refused line why
-refused_ends line why Finished is = absurd (cc)
-refused_ends line why (ending.Refused other because) is = refused_same (sym is)
-  where
-    refused_same : Refused other because ≡ Refused line why → ending.Refused other because ≡ ending.Refused line why
-    refused_same same = cc
-refused_ends line why TooLong is = absurd (cc)
+refused_ends line why end is = search rules
 
 pub script_done : (start : Start) (script : Script) (input sent kept : List ℕ) (left : Option (List ℕ))
     → EndsSteps start (outcome_of_script start.setup script) input (Ok Done) sent kept left → script.ending ≡ Finished
@@ -63,29 +55,19 @@ TalliesHead over head (Err (stop.Refused line why)) = (outcome_of_head [] over h
 TalliesHead over head (Err stop.Mem) = Unit {0}
 
 of_text : (text : List ℕ) (r : Result Tally Stop) → TalliesHead (is_overlong text) (head_of 0 text) r → Tallies text r
-of_text text (Ok tally) t = t
-of_text text (Err (stop.Refused line why)) t = t
-of_text text (Err stop.Mem) t = tt
+of_text text r t = search rules
 
 of_script : (desc : Description) (over : Bool) (first : ℕ) (lines : List (List ℕ)) (r : Result Tally Stop)
     → TalliesScript (record { desc = desc; drivers = [] }) (script_from desc (last_ending over) [] first lines) r
     → TalliesHead over (Described desc first lines) r
-of_script desc over first lines (Ok tally) t = t
-of_script desc over first lines (Err (stop.Refused line why)) t = t
-of_script desc over first lines (Err stop.Mem) t = tt
+of_script desc over first lines r t = search rules
 
 pub described : (text : List ℕ) (desc : Description) (first : ℕ) (h : Hand) (left : Option (List ℕ)) (r : Result Tally Stop) → IsHand h
     → EndsAt 0 desc first text h left
     → ((front more : List (List ℕ)) → Follows text front h left → first ≡ length front + 1 → scanned_lines text ≡ front ++ more
     → TalliesScript (record { desc = desc; drivers = [] }) (script_from desc (last_ending (is_overlong text)) [] first more) r)
     → Tallies text r
-described text desc first h left r is ends played =
-    let begins = follows_begin text ends.front h left is ends.follows in
-    let head : head_of 0 text ≡ Described desc first begins.more =
-    ap (head_from (is_overlong text) (new_reader 0) 1) begins.parts ∙ ends.head (is_overlong text) begins.more in
-    of_text text r
-    (subst (λ (x : Head). TalliesHead (is_overlong text) x r) (sym head)
-    (of_script desc (is_overlong text) first begins.more r (played ends.front begins.more ends.follows ends.next begins.parts)))
+described text desc first h left r is ends played = search (rules, follows_begin)
 
 pub alone : (text : List ℕ) (desc : Description) (r : Result Tally Stop) → EndsAlone 0 desc text
     → ((first : ℕ) → TalliesScript (record { desc = desc; drivers = [] }) (script_from desc Finished [] first []) r) → Tallies text r

@@ -1,7 +1,8 @@
 -- The lines of the part of a text whose lines are certain.
-use Rattle.std.proofs.Common.{◌≡◌, ℕ, suc, ◌≤◌, Bool, true, false, cond, List, [], ◌∷◌, ◌++◌, length, take, refl, sym, ap, ◌∙◌, arith, append-nil, eqb-true}
+use Rattle.std.proofs.Common.{◌≡◌, ℕ, suc, ◌≤◌, Bool, true, false, cond, List, [], ◌∷◌, ◌++◌, length, take, refl, sym, ap, ◌∙◌, arith, append-nil, rules}
+use Rattle.std.proofs.lemmas.Grind.{common_steps}
 use Rattle.std.specs.Prelude.{reverse}
-use Rattle.std.proofs.lemmas.List.{length-append, take_all, reverse-append, reverse-reverse}
+use Rattle.std.proofs.lemmas.List.{take_all, reverse-append, reverse-reverse}
 use Rattle.std.specs.List.{list_any}
 use Rattle.iio_desc.specs.Lines.{is_end}
 use Rattle.iio_text.specs.Lines.{is_line_end, onto_line, lines_of}
@@ -9,41 +10,24 @@ use Rattle.iio_history.specs.Input.{from_line_end, ended_part}
 use Rattle.iio_script.specs.LineReader.{has_end}
 use Rattle.iio_script.proofs.FrontLaws.{end_count, ended_lines, ended_lines-front, end_count-append, length-ended_lines, any-take}
 
-none_of : (lines : List (List ℕ)) → length lines ≡ 0 → lines ≡ []
-none_of [] h = refl
-none_of (l ∷ ls) h = absurd (omega arith)
-
 -- one more byte that isn't an LF ends no line
 ended_lines-open : (text : List ℕ) (b : ℕ) → is_line_end b ≡ false → ended_lines (text ++ b ∷ []) ≡ ended_lines text
 ended_lines-open text b h =
     let front = ended_lines-front text (b ∷ []) in
     let one : end_count (b ∷ []) ≡ 0 = rw h refl in
-    let none : front.0 ≡ [] =
-    none_of front.0 (omega (
-      arith,
-      ap length front.1,
-      length-append (ended_lines text) front.0,
-      length-ended_lines (text ++ b ∷ []),
-      length-ended_lines text,
-      end_count-append text (b ∷ []),
-      one,
-    )) in
+    let none : front.0 ≡ [] = grind (arith, common_steps, length-ended_lines, end_count-append) in
     front.1 ∙ ap (λ rest. ended_lines text ++ rest) none ∙ append-nil (ended_lines text)
 
 -- with one more LF all lines end in an LF
 length_step : (t : Bool) (b n : ℕ) (lines : List (List ℕ)) → length lines ≡ suc n → length (cond t ([] ∷ lines) (onto_line b lines)) ≡ suc (cond t (suc n) n)
-length_step true b n lines h = ap suc h
-length_step false b n [] h = absurd (omega arith)
-length_step false b n (l ∷ ls) h = h
+length_step t b n lines h = search rules
 
 length_lines : (text : List ℕ) → length (lines_of (text ++ 10 ∷ [])) ≡ suc (end_count text)
 length_lines [] = refl
 length_lines (c ∷ cs) = length_step (is_line_end c) c (end_count cs) (lines_of (cs ++ 10 ∷ [])) (length_lines cs)
 
 ended_lines-end : (text : List ℕ) (b : ℕ) → is_line_end b ≡ true → ended_lines (text ++ b ∷ []) ≡ lines_of (text ++ b ∷ [])
-ended_lines-end text b h =
-    let lf : b ≡ 10 = eqb-true b 10 h in
-    rw lf (take_all (end_count (text ++ 10 ∷ [])) (lines_of (text ++ 10 ∷ [])) (omega (arith, length_lines text, end_count-append text (10 ∷ []))))
+ended_lines-end text b h = search (rules, take_all, length_lines, end_count-append)
 
 reverse-cons : (b : ℕ) (bs : List ℕ) → reverse (b ∷ bs) ≡ reverse bs ++ b ∷ []
 reverse-cons b bs = reverse-append (b ∷ []) bs
@@ -51,8 +35,7 @@ reverse-cons b bs = reverse-append (b ∷ []) bs
 -- the part of a text up to its last LF has these lines
 from_step : (t : Bool) (b : ℕ) (bs : List ℕ) → is_line_end b ≡ t → lines_of (reverse (from_line_end bs)) ≡ ended_lines (reverse bs)
     → lines_of (reverse (cond t (b ∷ bs) (from_line_end bs))) ≡ ended_lines (reverse (b ∷ bs))
-from_step true b bs is h = rw reverse-cons (sym (ended_lines-end (reverse bs) b is))
-from_step false b bs is h = h ∙ sym (ap ended_lines (reverse-cons b bs) ∙ ended_lines-open (reverse bs) b is)
+from_step t b bs is h = search (rules, reverse-cons, ended_lines-end, ended_lines-open)
 
 from_end : (bytes : List ℕ) → lines_of (reverse (from_line_end bytes)) ≡ ended_lines (reverse bytes)
 from_end [] = refl

@@ -1,10 +1,8 @@
 -- No two connections have the same name.
-use Rattle.std.proofs.Common.{◌≡◌, ℕ, zero, suc, ◌<◌, true, false, List, [], ◌∷◌, ◌++◌, map, length, length-append, get_or, Some, None, refl, sym, ap, ◌∙◌, inl, inr, arith}
+use Rattle.std.proofs.Common.{◌≡◌, ℕ, zero, suc, ◌<◌, true, List, [], ◌∷◌, ◌++◌, map, length, get_or, Some, None, refl, sym, ap, ◌∙◌, arith}
+use Rattle.std.proofs.lemmas.Grind.{common_steps}
 use Rattle.std.specs.List.{position}
 use Rattle.std.specs.Str.{bytes_eq}
-use Rattle.std.proofs.lemmas.Bool.{cases_lt}
-use lib.ListN.{get_or-append}
-use lib.Seq.{get_or-append_seam}
 use Rattle.iio_history.proofs.BenchLists.{name_same}
 use Rattle.iio_bench.specs.declared.connection.Connection.{Connection}
 use Rattle.iio_system.specs.Connections.{AreApart}
@@ -28,14 +26,7 @@ module _ {S : Type 0} where
   -- another connection, whose name no other has
   pub apart_more : (cs : List (Connection S)) (c : Connection S) (name : List ℕ) → None ≡ position (is_named name) cs → c.name ≡ name → AreApart cs
       → AreApart (cs ++ c ∷ [])
-  apart_more cs c name none same apart = λ i k d less within.
-      let inside : k < length cs = omega (arith, less, within, length-append cs (c ∷ [])) in
-      elim (cases_lt i (length cs)) [
-        | inl earlier ↦ rw (get_or-append cs (c ∷ []) d k inside, get_or-append cs (c ∷ []) d i earlier) (apart i k d less earlier)
-        | inr later ↦
-            let last : i ≡ length cs = omega (arith, later, within, length-append cs (c ∷ [])) in
-            rw (get_or-append cs (c ∷ []) d k inside, last, get_or-append_seam cs c [] d, same) (none_named name cs (sym none) k d inside)
-      ]
+  apart_more cs c name none same apart = grind (arith, common_steps, none_named)
 
   or_any : (cs : List (Connection S)) (i : ℕ) (a b : Connection S) → i < length cs → get_or cs i a ≡ get_or cs i b
   or_any [] i a b within = absurd (omega (arith, within))

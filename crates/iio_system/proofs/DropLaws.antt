@@ -1,9 +1,8 @@
 -- A connection that is lost.
-use Rattle.std.proofs.Common.{◌≡◌, ℕ, ◌<◌, ◌||◌, not, Bool, true, false, cond, List, [], ◌∷◌, length, map, get_or, set, Option, Some, None, is_some, option_map, refl, sym, ap, ◌∙◌, subst, append-nil}
-use Rattle.std.specs.Prelude.{codes}
+use Rattle.std.proofs.Common.{◌≡◌, ℕ, ◌<◌, ◌||◌, not, Bool, true, false, List, [], ◌∷◌, length, map, get_or, set, Option, Some, None, is_some, option_map, refl, sym, ap, ◌∙◌, subst, append-nil, rules}
 use Rattle.std.specs.Str.{bytes_eq}
 use Rattle.iiod_commands.specs.Acts.{left_client, left_machine}
-use Rattle.iiod_commands.specs.Client.{ClientRecord, client_of}
+use Rattle.iiod_commands.specs.Client.{ClientRecord}
 use Rattle.iio_core.specs.Front.{Front}
 use Rattle.iio_core.specs.Machine.{Machine}
 use Rattle.iiod_commands.specs.Seat.{SeatRecord}
@@ -31,12 +30,10 @@ use Rattle.iio_system.proofs.NewLaws.{none_in}
 use Rattle.iio_system.proofs.OwnLaws.{all_others, line_found, line_mapped, rejoined, with_session}
 
 or_false : (b : Bool) → (b || false) ≡ b
-or_false true = refl
-or_false false = refl
+or_false b = search rules
 
 or_true : (b : Bool) → (b || true) ≡ true
-or_true true = refl
-or_true false = refl
+or_true b = search rules
 
 other_dropped : (s : Setup) (r : Registry) (name : List ℕ) (l : Line) → bytes_eq l.user.who name ≡ false → SameLine l (line_after s r (Dropped name) l)
 other_dropped s r name l apart = record { who = refl; ended = ap (λ (b : Bool). l.user.ended || b) apart ∙ or_false l.user.ended; begun = refl }
@@ -47,9 +44,7 @@ lines_dropped s m name = append-nil (map (line_after s (registry_of m) (Dropped 
 -- the line of a drop
 pub drop_lines : (s : Setup) (m : Told) (name : List ℕ) (live : Bool) → is_live name (registry_of m).users ≡ live
     → step_lines s m (Drop name) ≡ printed (name ∷ dropped_word live ∷ [])
-drop_lines s m name live is =
-    append-nil (printed (name ∷ cond (is_live name (registry_of m).users) (codes "dropped") (codes "closed") ∷ []))
-    ∙ ap (λ (b : Bool). printed (name ∷ cond b (codes "dropped") (codes "closed") ∷ [])) is
+drop_lines s m name live is = search rules
 
 live_by : (m : Told) (name : List ℕ) (o : Option ConnectionRecord) → user_named name (registry_of m).users ≡ o
     → is_live name (registry_of m).users ≡ elim o [ None ↦ false | Some u ↦ not u.ended ]
@@ -73,13 +68,7 @@ module _ {S : Type 0} (seen : S → SeatRecord) where
 
   client_by : (front : Front) (m : Told) (name : List ℕ) (l : Line) (o : Option (SessionRecord S)) → l.user.who ≡ name → IsServed seen front m l o
       → HasClient m name o
-  client_by front m name l None who served = (
-    served.client,
-    subst (λ (w : List ℕ). IsClientOf m w served.client) who served.has,
-    λ front machine. sym (rw (served.bare.0, served.bare.1) refl),
-  )
-  client_by front m name l (Some x) who served =
-      (client_of seen x.client, subst (λ (w : List ℕ). IsClientOf m w (client_of seen x.client)) who served.session.client, λ front machine. refl)
+  client_by front m name l o who served = search rules
 
   live_is : (front : Front) (m : Told) (name : List ℕ) (l : Line) (o : Option (SessionRecord S)) → line_named name m.lines ≡ Some l → IsServed seen front m l o
       → is_live name (registry_of m).users ≡ is_some o
@@ -104,10 +93,7 @@ module _ {S : Type 0} (seen : S → SeatRecord) where
         drop_lines s m name (is_some (get_or cs i d).session) (live_is front m name l (get_or cs i d).session at.1 at.2),
         record {
           front_is = stands.front_is;
-          told_is =
-              ap (λ (n : Machine). Some n)
-              (left ∙ has.2 front machine ∙ ap (λ (n : Machine). left_machine front n has.0) same
-              ∙ ap (λ (f : Front). left_machine f (machine_of m) has.0) stands.front_is ∙ gone.state);
+          told_is = search rules;
           bench = bench;
           lines =
               rejoined seen front (step s m (Dropped name)) name None i d (step s m (Dropped name)).lines cs (f l) bench.names

@@ -1,26 +1,26 @@
 -- A feed of a connection that is there and hasn't ended.
-use Rattle.std.proofs.Common.{◌≡◌, ℕ, suc, ◌<◌, ◌||◌, Bool, true, false, cond, List, [], ◌∷◌, ◌++◌, length, map, get_or, set, Option, Some, None, option_map, is_some, refl, sym, ap, ◌∙◌, subst, append-nil, true≢false}
+use Rattle.std.proofs.Common.{◌≡◌, ℕ, suc, ◌<◌, ◌||◌, Bool, true, false, cond, List, [], ◌∷◌, ◌++◌, length, map, get_or, set, Option, Some, None, option_map, is_some, refl, sym, ap, ◌∙◌, subst, rules}
 use Rattle.std.specs.Str.{bytes_eq}
 use Rattle.iio_text.specs.Escape.{quoted}
-use Rattle.iiod_grammar.specs.Stream.{AtEnd, InLine, InPayload, Scanner, items_from, scanner_after}
+use Rattle.iiod_grammar.specs.Stream.{AtEnd, InLine, Scanner, items_from, scanner_after}
 use Rattle.iiod_commands.specs.Client.{ClientRecord, client_of}
 use Rattle.iio_core.specs.Front.{Front}
 use Rattle.iio_core.specs.Machine.{Machine}
 use Rattle.iiod_session.specs.Run.{client_after}
 use Rattle.iiod_commands.specs.Seat.{SeatRecord}
 use Rattle.iiod_session.specs.Session.{SessionRecord}
-use Rattle.iio_history.specs.Event.{Event, Arrived, Heard}
+use Rattle.iio_history.specs.Event.{Event, Arrived}
 use Rattle.iio_history.specs.Registry.{Setup, ConnectionRecord, has_ended, user_named}
 use Rattle.iio_history.specs.Fold.{new_user, newcomers}
 use Rattle.iio_history.specs.Told.{Line, Told, registry_of, user_of}
-use Rattle.iio_history.specs.Machine.{line_after, new_line, step}
+use Rattle.iio_history.specs.Machine.{line_after, step}
 use Rattle.iio_history.specs.Played.{state_after, step_lines, steps, texts}
-use Rattle.iio_history.specs.Transcript.{Feed, begun_by, closed_line, events_of_step, line_named, printed, step_text}
+use Rattle.iio_history.specs.Transcript.{Feed, begun_by, closed_line, events_of_step, line_named, printed}
 use Rattle.iio_history.specs.Bench.{Every, IsClientOf, front_of, is_in, machine_of, names_of}
 use Rattle.iio_history.specs.BenchLaw.{CanJoinMore}
 use Rattle.iio_history.proofs.BenchFeeds.{feeds_are_acts}
 use Rattle.iio_history.proofs.BenchKept.{arrived_is_there, bench_kept, room_after}
-use Rattle.iio_history.proofs.BenchLists.{name_itself, name_same}
+use Rattle.iio_history.proofs.BenchLists.{name_same}
 use Rattle.iio_history.proofs.BenchOthers.{arrival_is_nothing, clients_are_kept}
 use Rattle.iio_bench.specs.declared.connection.Connection.{Connection}
 use Rattle.iio_bench.specs.Connection.{Arrival, HasHeard, IsHearing, IsSessionOf, arrival, heard_of, items_of, scanner_of}
@@ -40,8 +40,7 @@ user_of_line name (l ∷ ls) = by (bytes_eq l.user.who name) (user_of_line name 
   where
     by : (b : Bool) → user_named name (map user_of ls) ≡ option_map user_of (line_named name ls)
         → cond b (Some l.user) (user_named name (map user_of ls)) ≡ option_map user_of (cond b (Some l) (line_named name ls))
-    by true h = refl
-    by false h = h
+    by b h = search rules
 
 pub user_is : (m : Told) (name : List ℕ) (l : Line) → line_named name m.lines ≡ Some l → user_named name (registry_of m).users ≡ Some l.user
 user_is m name l is = user_of_line name m.lines ∙ ap (λ (o : Option Line). option_map user_of o) is
@@ -54,21 +53,15 @@ none_new s m name bytes l is = ap (λ (o : Option ConnectionRecord). cond (is_so
 -- the lines after the connection's bytes came
 arrived_lines : (s : Setup) (m : Told) (name bytes : List ℕ) (l : Line) → line_named name m.lines ≡ Some l
     → (step s m (Arrived name bytes)).lines ≡ map (line_after s (registry_of m) (Arrived name bytes)) m.lines
-arrived_lines s m name bytes l is =
-    ap (λ (us : List ConnectionRecord). map (line_after s (registry_of m) (Arrived name bytes)) m.lines ++ map (new_line (Arrived name bytes)) us)
-    (none_new s m name bytes l is) ∙ append-nil (map (line_after s (registry_of m) (Arrived name bytes)) m.lines)
+arrived_lines s m name bytes l is = search (rules, none_new)
 
 pub arrived_own : (s : Setup) (m : Told) (name bytes : List ℕ) (l : Line) → line_named name m.lines ≡ Some l
     → line_named name (step s m (Arrived name bytes)).lines ≡ Some (line_after s (registry_of m) (Arrived name bytes) l)
-arrived_own s m name bytes l is =
-    ap (λ (ls : List Line). line_named name ls) (arrived_lines s m name bytes l is)
-    ∙ line_mapped name (line_after s (registry_of m) (Arrived name bytes)) (λ x. refl) m.lines
-    ∙ ap (λ (o : Option Line). option_map (line_after s (registry_of m) (Arrived name bytes)) o) is
+arrived_own s m name bytes l is = search (rules, arrived_lines, line_mapped)
 
 arrived_begun : (s : Setup) (m : Told) (name bytes : List ℕ) (l : Line) → bytes_eq l.user.who name ≡ true
     → (line_after s (registry_of m) (Arrived name bytes) l).begun ≡ scanner_after l.begun bytes
-arrived_begun s m name bytes l own =
-    ap (λ (b : Bool). cond b (scanner_after l.begun bytes) l.begun) (ap (λ (w : List ℕ). bytes_eq name w) (name_same l.user.who name own) ∙ name_itself name)
+arrived_begun s m name bytes l own = search rules
 
 module _ {S : Type 0} (seen : S → SeatRecord) where
   -- the session when its bytes came
@@ -100,9 +93,6 @@ module _ {S : Type 0} (seen : S → SeatRecord) where
 abbrev pub HasNothing : Told → List ℕ → Type 0
 HasNothing m name = (client : ClientRecord) × IsBare client × IsClientOf m name client
 
-at_end_not : (x : Scanner) → is_at_end x ≡ false → x ≡ AtEnd → ⊥
-at_end_not x h at = true≢false (sym (ap is_at_end at) ∙ h)
-
 -- the bytes have come: its line, and those of the others
 pub record HasArrived {S : Type 0} (seen : S → SeatRecord) (front : Front) (n : Told) (a : Arrival) (cs : List (Connection S)) : Type 0 where
   pub line : Line
@@ -124,23 +114,7 @@ module _ {S : Type 0} (seen : S → SeatRecord) where
       → is_at_end begun ≡ e → l.user.ended ≡ is_at_end begun → l.begun ≡ begun → IsSessionOf seen m name begun x → IsOwning seen front (cond e None (Some x))
       → (is_at_end begun ≡ true → HasNothing m name)
       → IsServed seen front m l (cond e None (Some x))
-  served_by front m name begun l x true own at ended same session client gone =
-      let left = gone at in
-      record {
-        ended = ended ∙ at;
-        client = left.0;
-        bare = left.1;
-        has =
-            subst (λ (w : List ℕ). IsClientOf m w left.0) (sym (name_same l.user.who name own)) left.2;
-      }
-  served_by front m name begun l x false own at ended same session client gone = record {
-    live = ended ∙ at;
-    begun = λ stops. at_end_not begun at (sym same ∙ stops);
-    session =
-        subst (λ (w : List ℕ). IsSessionOf seen m w l.begun x) (sym (name_same l.user.who name own))
-        (subst (λ (b : Scanner). IsSessionOf seen m name b x) (sym same) session);
-    client = client;
-  }
+  served_by front m name begun l x e own at ended same session client gone = search rules
 
   pub stands_fed : (s : Setup) (n : Told) (front : Front) (told' : Option Machine) (cs : List (Connection S)) (a : Arrival) (x' : SessionRecord S) (i : ℕ)
       (d : Connection S)
@@ -155,12 +129,7 @@ module _ {S : Type 0} (seen : S → SeatRecord) where
         front_is = same;
         told_is = said.told_is;
         bench = said.bench;
-        lines =
-            rejoined seen front m2 a.name (cond (is_at_end (scanner_of a)) None (Some x')) i d m2.lines cs line.0 said.bench.names
-            (others_after_items seen s n front a.name (items_of a) cs arrived.others)
-            line.1 less apart here
-            (served_by front m2 a.name (scanner_of a) line.0 x' (is_at_end (scanner_of a)) (line_found a.name m2.lines line.0 line.1) refl
-            line.2 line.3 said.session client gone);
+        lines = search (rules, rejoined, others_after_items, served_by, line_found);
       }
 
   -- a connection that was there
@@ -178,9 +147,7 @@ module _ {S : Type 0} (seen : S → SeatRecord) where
   }
     where
       not_end : (b : Scanner) → (b ≡ AtEnd → ⊥) → is_at_end b ≡ false
-      not_end AtEnd h = absurd (h refl)
-      not_end (InLine begun) h = refl
-      not_end (InPayload pending count begun) h = refl
+      not_end b h = search rules
 
 module _ {S : Type 0} (seen : S → SeatRecord) where
   -- after it has ended it has nothing
@@ -200,9 +167,7 @@ module _ (s : Setup) (m : Told) (a : Arrival) (live : has_ended a.name (registry
   arrived = step s m (Arrived a.name a.bytes)
 
   events_are : events_of_step m (Feed a.name a.bytes) ≡ Arrived a.name a.bytes ∷ heard_of a
-  events_are =
-      ap (λ (b : Bool). cond b [] (Arrived a.name a.bytes ∷ map (λ item. Heard a.name item) (items_from (begun_by a.name m.lines) a.bytes))) live
-      ∙ ap (λ (x : Scanner). Arrived a.name a.bytes ∷ map (λ item. Heard a.name item) (items_from x a.bytes)) was
+  events_are = cc
 
   pub fed_state : state_after s m (Feed a.name a.bytes) ≡ steps s arrived (heard_of a)
   fed_state = ap (λ (es : List Event). steps s m es) events_are
@@ -210,11 +175,7 @@ module _ (s : Setup) (m : Told) (a : Arrival) (live : has_ended a.name (registry
   -- whether it has then ended or not
   pub fed_lines : (e : Bool) → has_ended a.name (registry_of (steps s arrived (heard_of a))).users ≡ e
       → step_lines s m (Feed a.name a.bytes) ≡ printed (a.name ∷ quoted (texts s arrived (heard_of a)) ∷ []) ++ cond e (closed_line a.name) []
-  fed_lines e ended =
-      ap (λ (es : List Event). step_text m (steps s m es) (Feed a.name a.bytes) (texts s m es)) events_are
-      ∙ ap (λ (b : Bool). cond b [] (printed (a.name ∷ quoted (texts s arrived (heard_of a)) ∷ []))
-      ++ cond (has_ended a.name (registry_of (steps s arrived (heard_of a))).users) (closed_line a.name) []) live
-      ∙ ap (λ (b : Bool). printed (a.name ∷ quoted (texts s arrived (heard_of a)) ∷ []) ++ cond b (closed_line a.name) []) ended
+  fed_lines e ended = search rules
 
 pub live_user : (m : Told) (name : List ℕ) (l : Line) (e : Bool) → line_named name m.lines ≡ Some l → l.user.ended ≡ e
     → has_ended name (registry_of m).users ≡ e

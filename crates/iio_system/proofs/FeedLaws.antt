@@ -1,10 +1,8 @@
 -- A feed of a connection by its place.
-use Rattle.std.proofs.Common.{◌≡◌, ℕ, suc, zero, ◌<◌, ◌||◌, Bool, true, false, cond, List, [], ◌∷◌, ◌++◌, length, map, get_or, set, Option, Some, None, refl, sym, ap, ◌∙◌, subst, arith}
+use Rattle.std.proofs.Common.{◌≡◌, ℕ, suc, zero, ◌<◌, true, false, cond, List, [], ◌∷◌, ◌++◌, length, map, get_or, set, Option, Some, None, refl, sym, ap, ◌∙◌, subst, arith, rules}
 use Rattle.std.specs.Prelude.{slice_get}
-use Rattle.std.specs.Str.{bytes_eq}
 use Rattle.std.proofs.lemmas.Option.{slice_get-get_or}
-use Rattle.iio_text.specs.Escape.{quoted}
-use Rattle.iiod_grammar.specs.Stream.{InLine, items_from}
+use Rattle.iiod_grammar.specs.Stream.{InLine}
 use Rattle.iiod_commands.specs.declared.manner.Manner.TheVariants.{Script}
 use Rattle.iiod_commands.specs.Seat.{SeatRecord}
 use Rattle.iiod_session.specs.Session.{IsFresh, SessionRecord}
@@ -12,10 +10,10 @@ use Rattle.iio_history.specs.Event.{Event, Arrived}
 use Rattle.iio_history.specs.Registry.{Setup, has_ended}
 use Rattle.iio_history.specs.Told.{Line, Told, registry_of}
 use Rattle.iio_history.specs.Machine.{step}
-use Rattle.iio_history.specs.Played.{state_after, step_lines, steps, texts}
-use Rattle.iio_history.specs.Transcript.{Feed, begun_by, closed_line, events_of_step, line_named, printed, step_text}
+use Rattle.iio_history.specs.Played.{state_after, step_lines, steps}
+use Rattle.iio_history.specs.Transcript.{Feed, begun_by, closed_line, events_of_step, line_named, printed}
 use Rattle.iio_history.specs.Bench.{Every, is_in, name_of}
-use Rattle.iio_history.specs.BenchLaw.{CanJoinMore, heard}
+use Rattle.iio_history.specs.BenchLaw.{CanJoinMore}
 use Rattle.iio_history.proofs.BenchLists.{name_itself}
 use Rattle.iio_bench.specs.declared.connection.Connection.{Connection}
 use Rattle.iio_bench.specs.Connection.{Arrival, IsHearing, arrival, heard_of, scanner_of}
@@ -31,12 +29,7 @@ use Rattle.iio_system.proofs.OwnLaws.{with_session}
 
 pub line_there : (name : List ℕ) (ls : List Line) (l : Line) → line_named name ls ≡ Some l → is_in (map name_of ls) name ≡ true
 line_there name [] l is = cc
-line_there name (x ∷ ls) l is = by (bytes_eq x.user.who name) is (line_there name ls l)
-  where
-    by : (b : Bool) → cond b (Some x) (line_named name ls) ≡ Some l → (line_named name ls ≡ Some l → is_in (map name_of ls) name ≡ true)
-        → (b || is_in (map name_of ls) name) ≡ true
-    by true is rest = refl
-    by false is rest = rest is
+line_there name (x ∷ ls) l is = search (rules, line_there name ls l)
 
 module _ {S : Type 0} (seen : S → SeatRecord) where
   -- what a feed leaves: its lines, and the state afterwards
@@ -90,11 +83,8 @@ module _ {S : Type 0} (seen : S → SeatRecord) where
           (feeds s (step s m (Arrived name bytes)) l.begun hears) owns
       by l is None at served feeds =
           let gone : has_ended name (registry_of m).users ≡ true = live_user m name l true is served.ended in
-          let none : events_of_step m (Feed name bytes) ≡ [] =
-          ap (λ (b : Bool). cond b [] (Arrived name bytes ∷ heard name (items_from (begun_by name m.lines) bytes))) gone in
-          let lines : step_lines s m (Feed name bytes) ≡ closed_line name =
-          ap (λ (es : List Event). step_text m (steps s m es) (Feed name bytes) (texts s m es)) none
-          ∙ ap (λ (b : Bool). cond b [] (printed (name ∷ quoted [] ∷ [])) ++ cond b (closed_line name) []) gone in
+          let none : events_of_step m (Feed name bytes) ≡ [] = search rules in
+          let lines : step_lines s m (Feed name bytes) ≡ closed_line name = cc in
           let same : set cs i (with_session seen y.connection.session (get_or cs i d)) ≡ cs =
           set_same cs i _ (at_get within (ap (λ (o : Option (SessionRecord S)). with_session seen o (get_or cs i d)) (feeds.0 ∙ sym at))) in (
             feeds.2 ∙ ap (λ (ls : List ℕ). x.printed ++ ls) (sym lines),

@@ -1,5 +1,6 @@
 -- Handlings one after another, and a poll before them.
-use Rattle.std.proofs.Common.{◌≡◌, ℕ, zero, suc, ◌+◌, ◌^◌, ◌<◌, ◌≤◌, ℤ, Bool, true, false, cond, List, [], ◌∷◌, ◌++◌, length, codes, Option, Some, None, refl, sym, ap, ◌∙◌, subst, append-nil, arith}
+use Rattle.std.proofs.Common.{◌≡◌, ℕ, zero, suc, ◌+◌, ◌^◌, ◌<◌, ◌≤◌, ℤ, Bool, true, false, cond, List, [], ◌∷◌, ◌++◌, length, codes, Option, Some, None, refl, sym, ap, ◌∙◌, subst, append-nil, arith, rules}
+use Rattle.std.proofs.lemmas.Grind.{common_steps}
 use Rattle.std.specs.Prelude.{◌==◌, not}
 use Rattle.std.proofs.lemmas.Bool.Decides.{nat_tests}
 use Rattle.std.proofs.lemmas.List.{append_assoc}
@@ -11,7 +12,7 @@ use Rattle.iio_device.specs.declared.plug.Plug.{Plug}
 use Rattle.iio_device.specs.Site.{at_place, is_empty}
 use Rattle.iio_core.specs.Attached.{Attachment, entries_from, is_attached}
 use Rattle.iio_core.specs.Front.{Front, device_name, kind_at, trigger_name}
-use Rattle.iio_core.specs.Machine.{Machine, station_at, attachment_of}
+use Rattle.iio_core.specs.Machine.{Machine, station_at}
 use Rattle.iio_core.specs.Moves.{entry_answer, machine_after_handling, entry_in, machine_after_entry, machine_after_poll, polled_answer, taken_off}
 use Rattle.iio_history.specs.Event.{Event, Handled, Polled}
 use Rattle.iio_history.specs.Registry.{Setup, attachments_of}
@@ -21,7 +22,6 @@ use Rattle.iio_history.specs.Machine.{step}
 use Rattle.iio_history.specs.Played.{steps, texts}
 use Rattle.iio_history.specs.Transcript.{Fire, event_text, poll_entries, printed}
 use Rattle.iio_history.specs.Bench.{machine_of}
-use Rattle.iio_history.proofs.BenchMoves.{poll_is}
 use Rattle.iio_bench.specs.declared.bench.Bench.{Bench}
 use Rattle.iio_bench.specs.declared.connection.Connection.{Connection}
 use Rattle.iio_kinds.specs.declared.seat.Seat.{Seat}
@@ -30,12 +30,10 @@ use Rattle.iio_core.specs.declared.became.Became.{Became}
 use Rattle.iio_kinds.specs.Handling.{IsRoom}
 use Rattle.iio_history.specs.Words.{became_word, polled_words}
 use Rattle.iio_system.specs.Moves.{CanGoOn, HandlesAll, HandlesOne, InOrder, Plays, handling_of, handlings}
-use Rattle.iio_kinds.specs.Places.{trigger_of}
 use Rattle.iio_bench.specs.Seat.{seen_of}
 use Rattle.iio_system.specs.Standing.{CanCapture, Holds, IsMade, RiseBy, StepState, step_state}
-use Rattle.iio_kinds.specs.Station.{any_front, any_station}
 use Rattle.iio_system.specs.System.{AreLines}
-use Rattle.iio_bench.proofs.ListLemmas.{length_map_is, filter_none}
+use Rattle.iio_bench.proofs.ListLemmas.{filter_none}
 use Rattle.iio_bench.proofs.GatherLemmas.{nothing_handled}
 use Rattle.iio_system.proofs.MoveLaws.{handle_holds, handle_line, machine_told, poll_holds, poll_line}
 
@@ -85,12 +83,7 @@ module _ {X : Type 0} {V : X → Type 0} (driver : Plug X V → Driver) where
     pub plays_none : (before : List ℕ)
         → None ≡ entry_answer (kind_at (bench_front b) dev) (entry_in trigger dev (bench_machine driver b)) (station_at (bench_machine driver b) dev)
         → Plays driver s m (handling_of trigger dev (entries_at m.triggers trigger)) (step_state b cs before) (step_state b' cs before)
-    plays_none before answered = by (entry_of dev (entries_at m.triggers trigger)) refl
-      where
-        by : (o : Option Handed) → entry_of dev (entries_at m.triggers trigger) ≡ o
-            → Plays driver s m (event_of trigger dev o) (step_state b cs before) (step_state b' cs before)
-        by None is = (sym (append-nil before), stays is)
-        by (Some e) is = absurd (let h = answered ∙ answer_own (Some e) is in cc)
+    plays_none before answered = search (rules, stays)
 
     pub plays_some : (before after name device room : List ℕ) (answer : Became) → name ≡ trigger_name (bench_front b') trigger
         → device ≡ device_name (bench_front b') dev
@@ -103,10 +96,7 @@ module _ {X : Type 0} {V : X → Type 0} (driver : Plug X V → Driver) where
         by : (o : Option Handed) → entry_of dev (entries_at m.triggers trigger) ≡ o
             → Plays driver s m (event_of trigger dev o) (step_state b cs before) (step_state b' cs after)
         by None is = absurd (let h = answered ∙ answer_own None is in cc)
-        by (Some e) is = (
-          handle_line driver trigger dev b b' cs less front told s m h before after name device room (Some answer) named called answered roomy line,
-          handle_holds driver trigger dev b b' cs less front told s m h,
-        )
+        by (Some e) is = search (rules, handle_line, handle_holds)
 
 -- ---- entries in order
 
@@ -139,16 +129,11 @@ entries_placed f g same zero (t ∷ ts) past = same t
 entries_placed f g same (suc k) (t ∷ ts) past = entries_placed f g same k ts (λ h. past (omega (arith, h)))
 
 no_first : (es : List Handed) → first_due es ≡ None → es ≡ []
-no_first [] none = refl
-no_first (e ∷ es) none = absurd (cc)
+no_first es none = search rules
 
 -- the first of entries below `high` is below it
 first_below : (dev low high : ℕ) (es : List Handed) → first_due es ≡ Some dev → InOrder low high es → dev < high
-first_below dev low high [] first order = absurd (cc)
-first_below dev low high (e ∷ es) first order =
-    let same : e.dev ≡ dev = cc in
-    let h = order_bound (suc e.dev) high es order.1 in
-    omega (arith, h, same)
+first_below dev low high es first order = search (rules, order_bound)
 
 -- ---- handlings one after another
 
@@ -165,17 +150,11 @@ module _ {X : Type 0} {V : X → Type 0} (driver : Plug X V → Driver) where
 
   module _ (s : Setup) (m : Told) (trigger low high : ℕ) (x y : StepState X V) (left : IsLeft s m trigger low high x y) where
     left_nothing : left.entries ≡ [] → Plays driver s m (handlings trigger (entries_at m.triggers trigger)) x y
-    left_nothing none = (
-      sym (left.text ∙ ap (λ (es : List Handed). y.printed ++ texts s left.state (handlings trigger es)) none ∙ append-nil y.printed),
-      subst (λ (n : Told). Holds driver s n y.bench y.connections)
-          (sym (left.last ∙ ap (λ (es : List Handed). steps s left.state (handlings trigger es)) none)) left.holds,
-    )
+    left_nothing none = search rules
 
     -- the first entry at the bench's trigger is the first one that is left
     first_left : first_due (entries_at (triggers_of y.bench) trigger) ≡ first_due left.entries
-    first_left =
-        ap (λ (z : Machine). first_due (entries_at z.triggers trigger)) (machine_told driver s left.state y.bench y.connections left.holds)
-        ∙ ap first_due left.there
+    first_left = search rules
 
     -- as many turns as there are devices leave none
     pub left_last : high ≤ low → Plays driver s m (handlings trigger (entries_at m.triggers trigger)) x y
@@ -211,11 +190,7 @@ module _ {X : Type 0} {V : X → Type 0} (driver : Plug X V → Driver) where
               ∙ without_none dev es (entry_none dev (suc e.dev) high es (omega (arith, same)) order.1);
           holds = one.1;
           order = order_from (low + 1) (suc e.dev) high es (omega (arith, from)) order.1;
-          text =
-              text ∙ ap (λ (d : ℕ). y.printed ++ (event_text s n (Handled trigger d) ++ texts s (step s n (Handled trigger d)) (handlings trigger es))) same
-              ∙ sym (append_assoc y.printed ev (texts s (step s n (Handled trigger dev)) (handlings trigger es)))
-              ∙ ap (λ (t : List ℕ). t ++ texts s (step s n (Handled trigger dev)) (handlings trigger es))
-              (ap (λ (t : List ℕ). y.printed ++ t) (sym (append-nil ev)) ∙ sym one.0);
+          text = grind (arith, common_steps);
           last = last ∙ ap (λ (d : ℕ). steps s (step s n (Handled trigger d)) (handlings trigger es)) same;
         }
 
@@ -247,16 +222,13 @@ poll_order dev trigger t (d ∷ ds) =
     by : (c : Bool) → InOrder (suc dev) (dev + suc (length ds)) (entries_from (suc dev) trigger t ds)
         → InOrder dev (dev + suc (length ds))
         (cond c (record { dev = dev; attachment = d.number; t = t } ∷ entries_from (suc dev) trigger t ds) (entries_from (suc dev) trigger t ds))
-    by true rest = (omega arith, rest)
-    by false rest = order_from dev (suc dev) (dev + suc (length ds)) (entries_from (suc dev) trigger t ds) (omega arith) rest
+    by c rest = search (rules, order_from)
 
 accepts : (made : List Handed) (es : List Handed) (n missed : ℕ) → Accepted n ≡ poll_answer made es missed → es ≡ []
-accepts made [] n missed answered = refl
-accepts made (e ∷ es) n missed answered = absurd (cc)
+accepts made es n missed answered = search rules
 
 misses : (made : List Handed) (es : List Handed) (n missed : ℕ) → Missed n ≡ poll_answer made es missed → is_empty es ≡ false
-misses made [] n missed answered = absurd (cc)
-misses made (e ∷ es) n missed answered = refl
+misses made es n missed answered = search rules
 
 module _ {X : Type 0} {V : X → Type 0} (driver : Plug X V → Driver) where
   module _ (trigger : ℕ) (t : ℤ) (b b' : Bench X V) (cs : List (Connection Seat)) (front : bench_front b' ≡ bench_front b)
@@ -286,9 +258,7 @@ module _ {X : Type 0} {V : X → Type 0} (driver : Plug X V → Driver) where
       polled_entries : entries_at (step s m (Polled trigger t)).triggers trigger ≡ poll_made made (entries_at m.triggers trigger)
       polled_entries =
           let long : length m.triggers ≡ length b.described.items
-          =
-          ap (λ (x : Machine). length x.triggers) (sym (machine_told driver s m b cs h))
-          ∙ length_map_is trigger_of b.triggers.items ∙ many in
+          = grind (arith, common_steps) in
           entries_placed (trigger_after_poll (attachments_of (registry_of m)) trigger t) (λ es. poll_made made es) (λ x. refl) trigger
           m.triggers (λ past. absurd (omega (arith, past, long, within)))
 
@@ -296,10 +266,7 @@ module _ {X : Type 0} {V : X → Type 0} (driver : Plug X V → Driver) where
       in_order =
           let whole : 0 + length (attachments_of (registry_of m)) ≡ length (attachments_of (registry_of m)) = omega arith in
           let long : 0 + length (attachments_of (registry_of m)) ≡ length (bench_front b').devices
-          =
-          whole ∙ ap (λ (ds : List Attachment). length ds) (poll_is s m trigger t).1 ∙ length_map_is attachment_of (machine_of m).stations
-          ∙ ap (λ (x : Machine). length x.stations) (sym (machine_told driver s m b cs h)) ∙ length_map_is (any_station driver) b.devices.items
-          ∙ sym (length_map_is any_front b.devices.items) ∙ ap (λ (f : Front). length f.devices) (sym front) in
+          = grind (arith, common_steps) in
           subst (λ (n : ℕ). InOrder 0 n made) long (poll_order 0 trigger t (attachments_of (registry_of m)))
 
       pub fire_accepted : (b'' : Bench X V) (before mid after name : List ℕ) (answer : Answer) (n : ℕ) → answer ≡ Accepted n

@@ -1,24 +1,20 @@
 -- Whether a step keeps to the rules of bystanders, by the sessions of the connections.
-use Rattle.std.proofs.Common.{◌≡◌, ℕ, ◌&&◌, ◌||◌, not, Bool, true, false, cond, List, [], ◌∷◌, map, Option, Some, None, option_map, is_some, Ok, refl, sym, ap, ◌∙◌, subst}
+use Rattle.std.proofs.Common.{◌≡◌, ℕ, ◌||◌, not, Bool, true, false, cond, List, [], ◌∷◌, map, Option, Some, None, refl, sym, ap, ◌∙◌, rules}
 use Rattle.std.specs.Str.{bytes_eq}
 use Rattle.std.proofs.lemmas.Slice.Eq.{bytes_eq-Decides}
-use Rattle.iiod_grammar.specs.Command.{Open, Close, Read, ReadBuf, GetTrig, SetBuffers, Remask}
-use Rattle.iiod_grammar.specs.Stream.{Item, Said, End, Scanner, items_from}
-use Rattle.iio_desc.specs.Kind.{is_input}
-use Rattle.iiod_commands.specs.Client.{SeatState, ClientRecord, client_of}
-use Rattle.iio_core.specs.Front.{Front, find_device, kind_at}
+use Rattle.iiod_grammar.specs.Stream.{Item, Scanner, items_from}
+use Rattle.iiod_commands.specs.Client.{ClientRecord, client_of}
+use Rattle.iio_core.specs.Front.{Front}
 use Rattle.iio_core.specs.Machine.{Machine}
 use Rattle.iiod_commands.specs.Seat.{SeatRecord}
 use Rattle.iiod_session.specs.Session.{SessionRecord}
-use Rattle.iio_device.specs.Site.{is_empty}
 use Rattle.iio_history.specs.Registry.{Setup, has_ended}
 use Rattle.iio_history.specs.Told.{Line, Told, registry_of}
 use Rattle.iio_history.specs.Transcript.{Feed, Drop, begun_by}
-use Rattle.iio_history.specs.Bench.{AreDistinct, Every, IsClientOf, front_of, is_in, name_of, names_of, seat_at}
-use Rattle.iio_worlds.specs.Bystanders.{may_say}
-use Rattle.iio_worlds.specs.Stance.{ClientsDecide, Opens, by_number, client_there, clients_but, has_seat, item_meets, items_meet, may_part, none_seated, one_seated, opens_by, opens_of, own_has, stance_of, step_meets}
+use Rattle.iio_history.specs.Bench.{AreDistinct, Every, IsClientOf, front_of, is_in, name_of, names_of}
+use Rattle.iio_worlds.specs.Stance.{ClientsDecide, Opens, client_there, clients_but, items_meet, none_seated, one_seated, opens_by, own_has, step_meets}
 use Rattle.iio_bench.specs.declared.connection.Connection.{Connection}
-use Rattle.iio_bench.specs.Guard.{client_named, clients_besides, own_input, with_client}
+use Rattle.iio_bench.specs.Guard.{client_named, clients_besides, with_client}
 use Rattle.iio_system.specs.System.{AreLines, IsServed, Stands}
 
 -- ---- questions about what is open
@@ -29,34 +25,9 @@ pub record Asks (mine : Bool) (x y : Opens) : Type 0 where
   pub others : mine ≡ true → (device : List ℕ) → x.others device ≡ y.others device
   pub none : mine ≡ true → x.none ≡ y.none
 
-say_same : (f g : List ℕ → Bool) (item : Item) → ((device : List ℕ) → f device ≡ g device) → may_say f item ≡ may_say g item
-say_same f g (Said (Ok (Open device samples text cyclic))) same = same device
-say_same f g (Said (Ok (Close device))) same = same device
-say_same f g (Said (Ok (ReadBuf device bytes))) same = same device
-say_same f g (Said (Ok (Read device place attribute))) same = same device
-say_same f g (Said (Ok (GetTrig device))) same = same device
-say_same f g (Said (Ok (SetBuffers device n))) same = same device
-say_same f g (Said (Ok (Remask device text))) same = same device
-say_same f g item same = refl
-
-part_same : (x y : Opens) (item : Item) → ((device : List ℕ) → x.others device ≡ y.others device) → x.none ≡ y.none → may_part x item ≡ may_part y item
-part_same x y (Said (Ok (Close device))) others none = ap not (others device)
-part_same x y (Said (Ok (Remask device text))) others none = ap not (others device)
-part_same x y (End refusal) others none = none
-part_same x y item others none = refl
-
-item_same : (x y : Opens) (mine : Bool) (item : Item) → Asks mine x y → item_meets x mine item ≡ item_meets y mine item
-item_same x y true item same = part_same x y item (same.others refl) (same.none refl)
-item_same x y false item same = say_same x.own y.own item (same.own refl)
-
 pub items_same : (x y : Opens) (mine : Bool) (items : List Item) → Asks mine x y → items_meet x mine items ≡ items_meet y mine items
 items_same x y mine [] same = refl
-items_same x y mine (item ∷ items) same =
-    ap (λ b. b && items_meet x mine items) (item_same x y mine item same) ∙ ap (λ b. item_meets y mine item && b) (items_same x y mine items same)
-
-by_same : (o : Option ℕ) (f g : ℕ → Bool) → ((k : ℕ) → f k ≡ g k) → by_number o f ≡ by_number o g
-by_same None f g same = refl
-by_same (Some k) f g same = same k
+items_same x y mine (item ∷ items) same = search (rules, items_same x y mine items same)
 
 every_map : {A : Type 0} (P Q : A → Type 0) (xs : List A) → ((x : A) → P x → Q x) → Every P xs → Every Q xs
 every_map P Q [] f all = tt
@@ -65,13 +36,6 @@ every_map P Q (x ∷ xs) f all = (f x all.0, every_map P Q xs f all.1)
 itself : (name : List ℕ) → bytes_eq name name ≡ true
 itself name = (bytes_eq-Decides name name).1 refl
 
-turned : (a b : List ℕ) → bytes_eq a b ≡ false → bytes_eq b a ≡ false
-turned a b other = by (bytes_eq b a) refl
-  where
-    by : (e : Bool) → bytes_eq b a ≡ e → bytes_eq b a ≡ false
-    by false is = is
-    by true is = let same : bytes_eq a b ≡ true = (bytes_eq-Decides a b).1 (sym ((bytes_eq-Decides b a).0 is)) in let n : true ≡ false = sym same ∙ other in cc
-
 -- names that don't include that one
 others_all : (w : List ℕ) (ns : List (List ℕ)) → is_in ns w ≡ false → Every (λ n. bytes_eq w n ≡ false) ns
 others_all w [] absent = tt
@@ -79,8 +43,7 @@ others_all w (n ∷ ns) absent = by (bytes_eq n w) refl absent (λ h. others_all
   where
     by : (b : Bool) → bytes_eq n w ≡ b → (b || is_in ns w) ≡ false → (is_in ns w ≡ false → Every (λ x. bytes_eq w x ≡ false) ns)
         → Every (λ x. bytes_eq w x ≡ false) (n ∷ ns)
-    by true is h rest = cc
-    by false is h rest = (turned n w is, rest h)
+    by b is h rest = search rules
 
 -- ---- clients by connections
 
@@ -92,10 +55,6 @@ module _ {S : Type 0} (seen : S → SeatRecord) (front : Front) (m : Told) where
   client_of_line l None gone = gone.client
   client_of_line l (Some x) live = client_of seen x.client
 
-  client_of_line_is : (l : Line) (o : Option (SessionRecord S)) (p : IsServed seen front m l o) → IsClientOf m l.user.who (client_of_line l o p)
-  client_of_line_is l None gone = gone.has
-  client_of_line_is l (Some x) live = live.session.client
-
   abbrev pub client_at : (ls : List Line) (cs : List (Connection S)) → AreLines seen front m ls cs → List ℕ → ClientRecord
   client_at (l ∷ ls) (c ∷ cs) are name = cond (bytes_eq l.user.who name) (client_of_line l c.session are.0.served) (client_at ls cs are.1 name)
   client_at ls cs are name = seat_state_client
@@ -104,29 +63,13 @@ module _ {S : Type 0} (seen : S → SeatRecord) (front : Front) (m : Told) where
       → Every (λ name. IsClientOf m name (client_at ls cs are name)) (map name_of ls)
   clients_are [] cs are = tt
   clients_are (l ∷ ls) [] are = absurd are
-  clients_are (l ∷ ls) (c ∷ cs) are =
-      let d = client_of_line l c.session are.0.served in
-      let own : IsClientOf m l.user.who d = client_of_line_is l c.session are.0.served in (
-        subst (λ (b : Bool). IsClientOf m l.user.who (cond b d (client_at ls cs are.1 l.user.who))) (sym (itself l.user.who)) own,
-        every_map (λ n. IsClientOf m n (client_at ls cs are.1 n)) (λ n. IsClientOf m n (client_at (l ∷ ls) (c ∷ cs) are n)) (map name_of ls)
-            (λ n is. by n d own is (bytes_eq l.user.who n) refl) (clients_are ls cs are.1),
-      )
-    where
-      by : (n : List ℕ) (d : ClientRecord) → IsClientOf m l.user.who d → IsClientOf m n (client_at ls cs are.1 n) → (b : Bool) → bytes_eq l.user.who n ≡ b
-          → IsClientOf m n (cond (bytes_eq l.user.who n) d (client_at ls cs are.1 n))
-      by n d own is true e = rw e (subst (λ w. IsClientOf m w d) ((bytes_eq-Decides l.user.who n).0 e) own)
-      by n d own is false e = rw e is
+  clients_are (l ∷ ls) (c ∷ cs) are = search (rules, every_map, clients_are ls cs are.1)
 
   -- ---- the others
 
   but_same : (f g : List ℕ → ClientRecord) (a : List ℕ) (ns : List (List ℕ)) → Every (λ n. f n ≡ g n) ns → clients_but f a ns ≡ clients_but g a ns
   but_same f g a [] same = refl
-  but_same f g a (n ∷ ns) same = by (bytes_eq n a) (but_same f g a ns same.1)
-    where
-      by : (b : Bool) → clients_but f a ns ≡ clients_but g a ns
-          → cond b (clients_but f a ns) (f n ∷ clients_but f a ns) ≡ cond b (clients_but g a ns) (g n ∷ clients_but g a ns)
-      by true rest = rest
-      by false rest = ap (λ d. d ∷ clients_but f a ns) same.0 ∙ ap (λ ds. g n ∷ ds) rest
+  but_same f g a (n ∷ ns) same = search (rules, but_same f g a ns same.1)
 
   -- past the first line
   past : (l : Line) (ls : List Line) (c : Connection S) (cs : List (Connection S)) (are : AreLines seen front m (l ∷ ls) (c ∷ cs)) (a : List ℕ)
@@ -141,13 +84,11 @@ module _ {S : Type 0} (seen : S → SeatRecord) (front : Front) (m : Told) where
   seated_more : (l : Line) (o : Option (SessionRecord S)) (p : IsServed seen front m l o) (k : ℕ) (ds es : List ClientRecord)
       → one_seated ds k ≡ one_seated es k
       → one_seated (client_of_line l o p ∷ ds) k ≡ one_seated (with_client seen o es) k
-  seated_more l None gone k ds es rest = ap (λ (ss : List SeatState). is_some (seat_at k ss) || one_seated ds k) gone.bare.0 ∙ rest
-  seated_more l (Some x) live k ds es rest = ap (λ b. has_seat k (client_of seen x.client) || b) rest
+  seated_more l o gone k ds es rest = search rules
 
   none_more : (l : Line) (o : Option (SessionRecord S)) (p : IsServed seen front m l o) (ds es : List ClientRecord) → none_seated ds ≡ none_seated es
       → none_seated (client_of_line l o p ∷ ds) ≡ none_seated (with_client seen o es)
-  none_more l None gone ds es rest = ap (λ (ss : List SeatState). is_empty ss && none_seated ds) gone.bare.0 ∙ rest
-  none_more l (Some x) live ds es rest = ap (λ b. is_empty (client_of seen x.client).seats && b) rest
+  none_more l o gone ds es rest = search rules
 
   -- the same for a list of clients and any test that a client with nothing doesn't change
   others_are : {B : Type 0} (f : List ClientRecord → B)
@@ -158,24 +99,7 @@ module _ {S : Type 0} (seen : S → SeatRecord) (front : Front) (m : Told) where
   others_are f more [] [] are a apart = refl
   others_are f more [] (c ∷ cs) are a apart = absurd are
   others_are f more (l ∷ ls) [] are a apart = absurd are
-  others_are f more (l ∷ ls) (c ∷ cs) are a apart =
-      let rest : f (clients_but (client_at (l ∷ ls) (c ∷ cs) are) a (map name_of ls)) ≡ f (clients_besides seen a cs) =
-      ap f (past l ls c cs are a apart.0) ∙ others_are f more ls cs are.1 a apart.1 in
-      by (bytes_eq l.user.who a) (ap (λ w. bytes_eq w a) are.0.name) rest
-    where
-      d : ClientRecord
-      d = client_at (l ∷ ls) (c ∷ cs) are l.user.who
-
-      first : d ≡ client_of_line l c.session are.0.served
-      first = ap (λ (b : Bool). cond b (client_of_line l c.session are.0.served) (client_at ls cs are.1 l.user.who)) (itself l.user.who)
-
-      by : (b : Bool) → bytes_eq c.name a ≡ b
-          → f (clients_but (client_at (l ∷ ls) (c ∷ cs) are) a (map name_of ls)) ≡ f (clients_besides seen a cs)
-          → f (cond b (clients_but (client_at (l ∷ ls) (c ∷ cs) are) a (map name_of ls)) (d ∷ clients_but (client_at (l ∷ ls) (c ∷ cs) are) a (map name_of ls)))
-          ≡ f (cond (bytes_eq c.name a) (clients_besides seen a cs) (with_client seen c.session (clients_besides seen a cs)))
-      by true e rest = rw e rest
-      by false e rest =
-          rw e (ap (λ x. f (x ∷ clients_but (client_at (l ∷ ls) (c ∷ cs) are) a (map name_of ls))) first ∙ more l c.session are.0.served _ _ rest)
+  others_are f more (l ∷ ls) (c ∷ cs) are a apart = search (rules, past, others_are f more ls cs are.1 a apart.1)
 
   pub seated_besides : (ls : List Line) (cs : List (Connection S)) (are : AreLines seen front m ls cs) (a : List ℕ) (k : ℕ) → AreDistinct (map name_of ls)
       → one_seated (clients_but (client_at ls cs are) a (map name_of ls)) k ≡ one_seated (clients_besides seen a cs) k
@@ -187,27 +111,12 @@ module _ {S : Type 0} (seen : S → SeatRecord) (front : Front) (m : Told) where
 
   -- ---- what the watched connection has open
 
-  own_line : (l : Line) (o : Option (SessionRecord S)) (p : IsServed seen front m l o) (k : ℕ)
-      → own_has (Some (client_of_line l o p)) k ≡ own_has (option_map (λ (x : SessionRecord S). client_of seen x.client) o) k
-  own_line l None gone k = ap (λ (ss : List SeatState). is_some (seat_at k ss)) gone.bare.0
-  own_line l (Some x) live k = refl
-
   pub own_named : (ls : List Line) (cs : List (Connection S)) (are : AreLines seen front m ls cs) (a : List ℕ) (k : ℕ)
       → own_has (client_there (client_at ls cs are) a (map name_of ls)) k ≡ own_has (client_named seen a cs) k
   own_named [] [] are a k = refl
   own_named [] (c ∷ cs) are a k = absurd are
   own_named (l ∷ ls) [] are a k = absurd are
-  own_named (l ∷ ls) (c ∷ cs) are a k = by (bytes_eq l.user.who a) (ap (λ w. bytes_eq w a) are.0.name) (own_named ls cs are.1 a k)
-    where
-      d : ClientRecord
-      d = client_of_line l c.session are.0.served
-
-      by : (b : Bool) → bytes_eq c.name a ≡ b
-          → own_has (client_there (client_at ls cs are.1) a (map name_of ls)) k ≡ own_has (client_named seen a cs) k
-          → own_has (cond (b || is_in (map name_of ls) a) (Some (cond b d (client_at ls cs are.1 a))) None) k
-          ≡ own_has (cond (bytes_eq c.name a) (option_map (λ (x : SessionRecord S). client_of seen x.client) c.session) (client_named seen a cs)) k
-      by true e rest = rw e (own_line l c.session are.0.served k)
-      by false e rest = rw e rest
+  own_named (l ∷ ls) (c ∷ cs) are a k = search (rules, own_named ls cs are.1 a k)
 
   -- ---- what is open, by the connections that aren't fed
 
@@ -217,17 +126,7 @@ module _ {S : Type 0} (seen : S → SeatRecord) (front : Front) (m : Told) where
       → (mine ≡ false → client_named seen a others ≡ client_named seen a cs) → (mine ≡ true → clients_besides seen a others ≡ clients_besides seen a cs)
       → Asks mine (opens_by front (client_named seen a others) (clients_besides seen a others))
       (opens_by (front_of s) (client_there (client_at ls cs are) a (map name_of ls)) (clients_but (client_at ls cs are) a (map name_of ls)))
-  asks_those s a mine ls cs others are apart same own besides = record {
-    own = λ other device. ap (λ (f : Front). by_number (find_device f device) (own_input f (client_named seen a others))) same
-        ∙ by_same (find_device (front_of s) device) (own_input (front_of s) (client_named seen a others))
-        (own_input (front_of s) (client_there (client_at ls cs are) a (map name_of ls)))
-        (λ k. ap (λ (b : Bool). is_input (kind_at (front_of s) k) && b) (ap (λ o. own_has o k) (own other) ∙ sym (own_named ls cs are a k)));
-    others = λ is device. ap (λ (f : Front). by_number (find_device f device) (one_seated (clients_besides seen a others))) same
-        ∙ by_same (find_device (front_of s) device) (one_seated (clients_besides seen a others))
-        (one_seated (clients_but (client_at ls cs are) a (map name_of ls)))
-        (λ k. ap (λ ds. one_seated ds k) (besides is) ∙ sym (seated_besides ls cs are a k apart));
-    none = λ is. ap none_seated (besides is) ∙ sym (none_besides ls cs are a apart);
-  }
+  asks_those s a mine ls cs others are apart same own besides = search (rules, own_named, seated_besides, none_besides)
 
 module _ {S : Type 0} (seen : S → SeatRecord) where
   -- ---- the whole
@@ -255,9 +154,7 @@ module _ {S : Type 0} (seen : S → SeatRecord) where
 
   -- a connection that has ended says nothing
   pub meets_ended : (s : Setup) (m : Told) (a name bytes : List ℕ) → has_ended name (registry_of m).users ≡ true → true ≡ step_meets s a m (Feed name bytes)
-  meets_ended s m a name bytes ended =
-      ap (λ (b : Bool). b || items_meet (opens_of s.desc (stance_of a (registry_of m))) (bytes_eq name a) (items_from (begun_by name m.lines) bytes))
-      (sym ended)
+  meets_ended s m a name bytes ended = cc
 
   -- a loss
   pub meets_lost : ClientsDecide → (s : Setup) (m : Told) (front : Front) (told : Option Machine) (cs : List (Connection S)) (a name : List ℕ) (meets : Bool)

@@ -1,5 +1,5 @@
 -- Whether a step keeps to the rules of bystanders, by the told state.
-use Rattle.std.proofs.Common.{◌≡◌, ℕ, suc, ◌+◌, ◌*◌, ◌-◌, ◌^◌, ◌<◌, ◌||◌, not, Bool, true, false, List, ◌++◌, length, get_or, Option, Some, None, Result, Ok, Err, IfOk, refl, sym, ap, ◌∙◌, subst, arith, []}
+use Rattle.std.proofs.Common.{◌≡◌, ℕ, suc, ◌+◌, ◌*◌, ◌-◌, ◌^◌, ◌<◌, ◌||◌, not, Bool, true, false, List, ◌++◌, length, get_or, Option, Some, None, Result, Ok, Err, IfOk, refl, sym, ap, ◌∙◌, subst, arith, [], rules}
 use Rattle.std.specs.List.{position}
 use Rattle.std.specs.Str.{bytes_eq}
 use Rattle.std.proofs.lemmas.List.Quantifiers.{position-Some}
@@ -105,35 +105,24 @@ module _ {X : Type 0} {V : X → Type 0} (driver : Plug X V → Driver) where
 
   pub meets_drop : ClientsDecide → (b : Bench X V) (cs : List (Connection Seat)) (a name : List ℕ) (meets : Bool)
       → meets ≡ (not (bytes_eq name a) || none_seated (clients_besides seen_of a cs)) → Meets driver a (Drop name) b cs meets
-  meets_drop decides b cs a name meets is =
-      λ s m holds. meets_lost seen_of decides s m (front_of b) (Some (machine_of driver b)) cs a name meets holds is
+  meets_drop decides b cs a name meets is = search (rules, meets_lost)
 
   -- ---- any step
 
   pub met_feed : (a name bytes given : List ℕ) (t : CodeStep) (b : Bench X V) (cs : List (Connection Seat)) (r : Result Bool Mem) → t ≡ code.Feed name bytes
       → given ≡ bytes
       → IfOk r (MeetsFeed driver a name given b cs) → IfOk r (MeetsStep driver a t b cs)
-  met_feed a name bytes given t b cs (Err e) is same fed = tt
-  met_feed a name bytes given t b cs (Ok meets) is same fed =
-      let those : MeetsFeed driver a name bytes b cs meets = subst (λ (bs : List ℕ). MeetsFeed driver a name bs b cs meets) same fed in
-      let met : MeetsStep driver a (code.Feed name bytes) b cs meets =
-      λ s m room holds. those s m (room_less (suc (length bytes)) (1 + length bytes) m.stations (omega arith) room) holds in
-      subst (λ (x : CodeStep). MeetsStep driver a x b cs meets) (sym is) met
+  met_feed a name bytes given t b cs r is same fed = search rules
 
   pub met_drop : (a name : List ℕ) (t : CodeStep) (b : Bench X V) (cs : List (Connection Seat)) (r : Result Bool Mem) → t ≡ code.Drop name
       → IfOk r (Meets driver a (Drop name) b cs) → IfOk r (MeetsStep driver a t b cs)
-  met_drop a name t b cs (Err e) is lost = tt
-  met_drop a name t b cs (Ok meets) is lost =
-      let met : MeetsStep driver a (code.Drop name) b cs meets = λ s m room holds. lost s m holds in
-      subst (λ (x : CodeStep). MeetsStep driver a x b cs meets) (sym is) met
+  met_drop a name t b cs r is lost = search rules
 
   -- every other step keeps to the rules
   pub met_other : (a : List ℕ) (t : CodeStep) (b : Bench X V) (cs : List (Connection Seat)) → ((name bytes : List ℕ) → t ≡ code.Feed name bytes → ⊥)
       → ((name : List ℕ) → t ≡ code.Drop name → ⊥)
       → MeetsStep driver a t b cs true
-  met_other a (code.Feed name bytes) b cs feed drop = absurd (feed name bytes refl)
-  met_other a (code.Drop name) b cs feed drop = absurd (drop name refl)
-  met_other a t b cs feed drop = λ s m room holds. refl
+  met_other a t b cs feed drop = search rules
 
   -- ---- the whole, by the history
 

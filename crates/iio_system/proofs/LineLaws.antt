@@ -1,7 +1,7 @@
 -- The lines of the told state when one connection is heard.
-use Rattle.std.proofs.Common.{◌≡◌, ℕ, ◌||◌, Bool, true, false, cond, List, [], ◌∷◌, map, Option, Some, None, refl, sym, ap, ◌∙◌, subst, append-nil, true≢false}
+use Rattle.std.proofs.Common.{◌≡◌, ℕ, ◌||◌, Bool, true, false, List, [], ◌∷◌, map, Option, Some, None, refl, sym, ap, ◌∙◌, subst, append-nil, rules}
 use Rattle.std.specs.Str.{bytes_eq}
-use Rattle.iiod_grammar.specs.Stream.{Item, End, Scanner, no_item, scanner_after}
+use Rattle.iiod_grammar.specs.Stream.{Item, Scanner, no_item}
 use Rattle.iiod_commands.specs.Client.{ClientRecord, client_of}
 use Rattle.iio_core.specs.Front.{Front}
 use Rattle.iiod_commands.specs.Seat.{SeatRecord}
@@ -13,21 +13,13 @@ use Rattle.iio_history.specs.Machine.{line_after, step}
 use Rattle.iio_history.specs.Played.{steps}
 use Rattle.iio_history.specs.Bench.{Every, IsClientOf, is_in, name_of, names_of}
 use Rattle.iio_history.specs.BenchLaw.{IsOthers, heard}
-use Rattle.iio_history.proofs.BenchLists.{name_itself, name_same}
+use Rattle.iio_history.proofs.BenchLists.{name_itself}
 use Rattle.iio_history.proofs.BenchOthers.{clients_are_kept}
 use Rattle.iio_bench.specs.declared.connection.Connection.{Connection}
 use Rattle.iio_system.specs.System.{AreLines, IsServed}
 
-or_false : (b : Bool) → (b || false) ≡ b
-or_false true = refl
-or_false false = refl
-
 pub apart_sym : (a b : List ℕ) → bytes_eq a b ≡ false → bytes_eq b a ≡ false
-apart_sym a b apart = by (bytes_eq b a) refl
-  where
-    by : (t : Bool) → bytes_eq b a ≡ t → bytes_eq b a ≡ false
-    by false is = is
-    by true is = absurd (true≢false (sym (ap (λ (n : List ℕ). bytes_eq n b) (sym (name_same b a is)) ∙ name_itself b) ∙ apart))
+apart_sym a b apart = search rules
 
 -- a line that is the same except for its buffers count
 pub record SameLine (l l' : Line) : Type 0 where
@@ -38,16 +30,11 @@ pub record SameLine (l l' : Line) : Type 0 where
 -- what another connection says changes nothing of a line
 pub other_heard : (s : Setup) (r : Registry) (name : List ℕ) (item : Item) (l : Line) → bytes_eq l.user.who name ≡ false
     → SameLine l (line_after s r (Heard name item) l)
-other_heard s r name (End error) l apart = record { who = refl; ended = ap (λ (b : Bool). l.user.ended || b) apart ∙ or_false l.user.ended; begun = refl }
-other_heard s r name item l apart = record { who = refl; ended = refl; begun = refl }
+other_heard s r name item l apart = search rules
 
 pub other_arrived : (s : Setup) (r : Registry) (name bytes : List ℕ) (l : Line) → bytes_eq l.user.who name ≡ false
     → SameLine l (line_after s r (Arrived name bytes) l)
-other_arrived s r name bytes l apart = record {
-  who = refl;
-  ended = refl;
-  begun = ap (λ (b : Bool). cond b (scanner_after l.begun bytes) l.begun) (apart_sym l.user.who name apart);
-}
+other_arrived s r name bytes l apart = search rules
 
 module _ {S : Type 0} (seen : S → SeatRecord) where
   pub served_moves : (front : Front) (m m' : Told) (l l' : Line) (o : Option (SessionRecord S)) → SameLine l l'
@@ -109,8 +96,7 @@ every_there names (l ∷ ls) all = (
 )
   where
     or_true : (b : Bool) → (b || true) ≡ true
-    or_true true = refl
-    or_true false = refl
+    or_true b = search rules
 
 pub every_line_there : (m : Told) → Every (λ (l : Line). is_in (names_of m) l.user.who ≡ true) m.lines
 every_line_there m = every_there (names_of m) m.lines (λ w h. h)
@@ -121,8 +107,7 @@ pub clients_kept : (s : Setup) (m : Told) (e : Event) (name : List ℕ) (ls : Li
     → Every (λ (l : Line). (client : ClientRecord) → bytes_eq l.user.who name ≡ false → IsClientOf m l.user.who client
     → IsClientOf (step s m e) l.user.who client) ls
 clients_kept s m e name [] others there = tt
-clients_kept s m e name (l ∷ ls) others there =
-    (λ client apart d. clients_are_kept s m e l.user.who client (others l apart) there.0 d, clients_kept s m e name ls others there.1)
+clients_kept s m e name (l ∷ ls) others there = search (rules, clients_are_kept, clients_kept s m e name ls others there.1)
 
 module _ {S : Type 0} (seen : S → SeatRecord) where
   pub others_after_item : (s : Setup) (m : Told) (front : Front) (name : List ℕ) (item : Item) (cs : List (Connection S))

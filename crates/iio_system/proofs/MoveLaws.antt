@@ -1,33 +1,30 @@
 -- What happens to a bench besides the calls of connections is what the history says.
-use Rattle.std.proofs.Common.{◌≡◌, ℕ, zero, suc, ◌+◌, ◌-◌, ◌^◌, ◌<◌, ◌≤◌, ℤ, Bool, true, false, not, List, [], ◌∷◌, ◌++◌, map, length, codes, slice_get, slice_index_or, Option, Some, None, refl, sym, ap, ◌∙◌, subst, append-nil, arith}
+use Rattle.std.proofs.Common.{◌≡◌, ℕ, zero, suc, ◌+◌, ◌-◌, ◌^◌, ◌<◌, ◌≤◌, ℤ, Bool, true, false, not, List, [], ◌∷◌, ◌++◌, map, length, codes, slice_get, slice_index_or, Option, Some, refl, sym, ap, ◌∙◌, subst, arith, rules}
 use Rattle.std.specs.Prelude.{◌&&◌, All, unwrap_or}
 use Rattle.std.specs.Option.{option_map_or}
 use Rattle.std.specs.Fmt.{signed_decimal}
 use Rattle.std.proofs.lemmas.Bool.Decides.{nat_tests}
 use Rattle.iio_sensor.specs.Driver.{Driver}
 use Rattle.iio_trigger.specs.declared.Polled.{Polled as Answer}
-use Rattle.hex.specs.Hex.{encode_lower}
 use Rattle.iio_desc.specs.Description.{device_name as desc_device_name, trigger_name as desc_trigger_name}
 use Rattle.iio_desc.specs.Kind.{is_average}
-use Rattle.iio_device.specs.declared.handling.Handled.TheVariants.{Captured, Fault, Idle}
 use Rattle.iio_device.specs.declared.handling.Sensed.{Sensed as Look}
 use Rattle.iio_device.specs.declared.handling.Sensed.TheVariants as sense
 use Rattle.iio_device.specs.declared.plug.Plug.{Plug}
 use Rattle.iio_device.specs.Site.{at_place}
 use Rattle.iiod_commands.specs.Client.{ClientRecord}
 use Rattle.iio_core.specs.Front.{Front, device_name, kind_at, shape_at, trigger_name}
-use Rattle.iio_core.specs.Machine.{Machine, Member, Station, is_plugged, no_station, station_at}
+use Rattle.iio_core.specs.Machine.{Machine, Member, Station, is_plugged, station_at}
 use Rattle.iiod_commands.specs.Seat.{SeatRecord}
-use Rattle.iio_history.specs.Event.{Event, Arrived, Clock, Dropped, Handled, Heard, Polled, Sensed, Unplugged}
-use Rattle.iio_history.specs.Registry.{Registry, Setup, ConnectionRecord}
+use Rattle.iio_history.specs.Event.{Event, Clock, Handled, Polled, Sensed, Unplugged}
+use Rattle.iio_history.specs.Registry.{Registry, Setup}
 use Rattle.iio_core.specs.Moves.{entry_answer, kind_sensed, machine_after_handling, machine_after_look, machine_after_unplugging, entry_in, machine_after_poll, polled_answer}
-use Rattle.iio_history.specs.Fold.{newcomers}
 use Rattle.iio_history.specs.Told.{Line, Told, registry_of}
-use Rattle.iio_history.specs.Machine.{line_after, new_line, step}
+use Rattle.iio_history.specs.Machine.{line_after, step}
 use Rattle.iio_history.specs.Transcript.{Sense, SetClock, Unplug, event_text, printed}
 use Rattle.iio_history.specs.Bench.{Every, IsBench, IsClientOf, IsStep, front_of, is_in, machine_of, names_of}
 use Rattle.iio_history.specs.BenchLaw.{IsOthers}
-use Rattle.iio_history.specs.BenchMoves.{IsMove, entry_word, moved_text, next_bytes}
+use Rattle.iio_history.specs.BenchMoves.{entry_word, moved_text, next_bytes}
 use Rattle.iio_history.proofs.BenchKept.{bench_kept}
 use Rattle.iio_history.proofs.BenchMoves.{clock_is, handling_is, look_is, moves_print, poll_is, unplugging_is}
 use Rattle.iio_history.proofs.BenchOthers.{clients_are_kept}
@@ -36,13 +33,10 @@ use Rattle.iio_bench.specs.declared.connection.Connection.{Connection}
 use Rattle.iio_kinds.specs.declared.seat.Seat.{Seat}
 use Rattle.iio_bench.specs.Bench.{front_of as bench_front, machine_of as bench_machine}
 use Rattle.iio_core.specs.declared.became.Became.{Became}
-use Rattle.iio_core.specs.declared.became.Became.TheVariants.{Asked, Gave}
 use Rattle.iio_core.specs.declared.became.Gave.TheVariants as gave
 use Rattle.iio_kinds.specs.Handling.{IsRoom, counted, is_last}
 use Rattle.iio_history.specs.Words.{became_word, polled_words, sensed_words, unplugged_word}
-use Rattle.iio_bench.specs.Seat.{seen_of}
 use Rattle.iio_system.specs.Standing.{CanCapture, Holds, Makes, RiseBy, step_state}
-use Rattle.iio_kinds.specs.Station.{any_front, any_station}
 use Rattle.iio_system.specs.System.{AreLines}
 use Rattle.iio_system.proofs.LineLaws.{SameLine, every_line_there, served_moves}
 use Rattle.iio_bench.proofs.ListLemmas.{length_map_is}
@@ -57,35 +51,19 @@ IsOfBench (Clock moment) = Unit {0}
 IsOfBench (Unplugged device) = Unit {0}
 IsOfBench e = ⊥
 
-is_move : (e : Event) → IsOfBench e → IsMove e
-is_move (Heard name item) is = absurd is
-is_move (Dropped name) is = absurd is
-is_move e is = tt
-
 is_others : (name : List ℕ) (e : Event) → IsOfBench e → IsOthers name e
-is_others name (Heard speaker item) is = absurd is
-is_others name (Dropped speaker) is = absurd is
-is_others name e is = tt
+is_others name e is = search rules
 
 is_step : (names : List (List ℕ)) (e : Event) → IsOfBench e → IsStep names e
-is_step names (Heard speaker item) is = absurd is
-is_step names e is = tt
-
-none_new : (s : Setup) (e : Event) (us : List ConnectionRecord) → IsOfBench e → newcomers s e us ≡ []
-none_new s (Arrived name bytes) us is = absurd is
-none_new s e us is = refl
+is_step names e is = search rules
 
 same_line : (s : Setup) (r : Registry) (e : Event) (l : Line) → IsOfBench e → SameLine l (line_after s r e l)
-same_line s r (Arrived name bytes) l is = absurd is
-same_line s r (Heard name item) l is = absurd is
-same_line s r (Dropped name) l is = absurd is
-same_line s r e l is = record { who = refl; ended = refl; begun = refl }
+same_line s r e l is = search rules
 
 clients_stay : (s : Setup) (m : Told) (e : Event) (ls : List Line) → IsOfBench e → Every (λ (l : Line). is_in (names_of m) l.user.who ≡ true) ls
     → Every (λ (l : Line). (client : ClientRecord) → IsClientOf m l.user.who client → IsClientOf (step s m e) l.user.who client) ls
 clients_stay s m e [] is there = tt
-clients_stay s m e (l ∷ ls) is there =
-    (λ client d. clients_are_kept s m e l.user.who client (is_others l.user.who e is) there.0 d, clients_stay s m e ls is there.1)
+clients_stay s m e (l ∷ ls) is there = search (rules, clients_are_kept, is_others, clients_stay s m e ls is there.1)
 
 module _ {S : Type 0} (seen : S → SeatRecord) where
   -- one step of all lines
@@ -95,18 +73,13 @@ module _ {S : Type 0} (seen : S → SeatRecord) where
   all_move front m m' f [] [] same clients are = tt
   all_move front m m' f [] (c ∷ cs) same clients are = absurd are
   all_move front m m' f (l ∷ ls) [] same clients are = absurd are
-  all_move front m m' f (l ∷ ls) (c ∷ cs) same clients are = (
-    record { name = are.0.name ∙ sym (same l).who; served = served_moves seen front m m' l (f l) c.session (same l) clients.0 are.0.served },
-    all_move front m m' f ls cs same clients.1 are.1,
-  )
+  all_move front m m' f (l ∷ ls) (c ∷ cs) same clients are = search (rules, served_moves, all_move front m m' f ls cs same clients.1 are.1)
 
   pub lines_move : (s : Setup) (m : Told) (front : Front) (e : Event) (cs : List (Connection S)) → IsOfBench e → AreLines seen front m m.lines cs
       → AreLines seen front (step s m e) (step s m e).lines cs
   lines_move s m front e cs is are =
       let lines : (step s m e).lines ≡ map (line_after s (registry_of m) e) m.lines
-      =
-      ap (λ (us : List ConnectionRecord). map (line_after s (registry_of m) e) m.lines ++ map (new_line e) us) (none_new s e (registry_of m).users is)
-      ∙ append-nil (map (line_after s (registry_of m) e) m.lines) in
+      = search rules in
       subst (λ (ls : List Line). AreLines seen front (step s m e) ls cs) (sym lines)
       (all_move front m (step s m e) (line_after s (registry_of m) e) m.lines cs (λ l. same_line s (registry_of m) e l is)
       (clients_stay s m e m.lines is (every_line_there m)) are)
@@ -133,11 +106,7 @@ device_told s front dev same = ap (λ (x : Front). device_name x dev) same
 -- what an output device was given is what it would have been given
 room_word : (answer : Option Became) (members : List Member) (room : List ℕ) → IsRoom answer members room
     → became_word answer room ≡ became_word answer (next_bytes members)
-room_word None members room is = refl
-room_word (Some (Asked handled)) members room is = refl
-room_word (Some (Gave gave.Given)) members room is = ap (λ (o : Option (List ℕ)). codes "given " ++ encode_lower (unwrap_or o [])) (sym is)
-room_word (Some (Gave gave.Underrun)) members room is = refl
-room_word (Some (Gave gave.Idle)) members room is = refl
+room_word answer members room is = search rules
 
 -- ---- captures
 
@@ -151,11 +120,7 @@ pub no_end : (captures : List ℕ) (dev : ℕ) → CanCapture captures → optio
 no_end captures dev can = not_ended captures dev (λ i d less. let h = can i d less in omega (arith, h))
 
 counted_most : (o : Option Became) (n : ℕ) → counted o n ≤ n + 1
-counted_most None n = omega arith
-counted_most (Some (Asked (Captured k))) n = omega arith
-counted_most (Some (Asked Fault)) n = omega arith
-counted_most (Some (Asked Idle)) n = omega arith
-counted_most (Some (Gave answer)) n = omega arith
+counted_most o n = search rules
 
 place_most : (f : ℕ → ℕ) (dev n : ℕ) (ns : List ℕ) → ((c : ℕ) → f c ≤ c + 1) → All (λ c. c ≤ n) ns → (i d : ℕ) → i < length (at_place dev f ns)
     → slice_index_or (at_place dev f ns) i d ≤ n + 1
@@ -178,8 +143,7 @@ module _ (s : Setup) (m : Told) (e : Event) where
   -- the line of an event
   one_line : (text before after : List ℕ) → IsBench s m → IsOfBench e → text ≡ moved_text s (machine_of m) e → after ≡ before ++ text
       → after ≡ before ++ (event_text s m e ++ [])
-  one_line text before after bench is words line =
-      line ∙ ap (λ (t : List ℕ). before ++ t) (words ∙ sym (moves_print s m e bench (is_move e is)) ∙ sym (append-nil (event_text s m e)))
+  one_line text before after bench is words line = search (rules, moves_print)
 
 module _ {X : Type 0} {V : X → Type 0} (driver : Plug X V → Driver) where
   -- the devices as the told state has them
@@ -193,9 +157,7 @@ module _ {X : Type 0} {V : X → Type 0} (driver : Plug X V → Driver) where
     front_is = front ∙ h.front_is;
     told_is = ap (λ (x : Machine). Some x) told;
     bench = bench_kept s m e (is_step (names_of m) e is) h.bench;
-    lines =
-        subst (λ (f : Front). AreLines seen_of f (step s m e) (step s m e).lines cs) (sym front)
-        (lines_move seen_of s m (bench_front b) e cs is h.lines);
+    lines = search (rules, lines_move);
   }
 
   -- ---- the clock
@@ -213,16 +175,13 @@ module _ {X : Type 0} {V : X → Type 0} (driver : Plug X V → Driver) where
   here : (b : Bench X V) (dev : ℕ) → dev < length (bench_front b).devices
       → slice_get (bench_machine driver b).stations dev ≡ Some (station_at (bench_machine driver b) dev)
   unfolding station_at
-  here b dev less =
-      there_is (bench_machine driver b).stations dev no_station
-      (subst (λ (n : ℕ). dev < n) (length_map_is any_front b.devices.items ∙ sym (length_map_is (any_station driver) b.devices.items)) less)
+  here b dev less = search (rules, there_is, length_map_is)
 
   -- what is said of a device by its number is said of it as the told state has it
   told_here : {A : Type 0} (word : Machine → Option Station → A) (s : Setup) (m : Told) (b : Bench X V) (cs : List (Connection Seat)) (dev : ℕ)
       → dev < length (bench_front b).devices → Holds driver s m b cs
       → word (bench_machine driver b) (Some (station_at (bench_machine driver b) dev)) ≡ word (machine_of m) (slice_get (machine_of m).stations dev)
-  told_here word s m b cs dev less h =
-      ap (word (bench_machine driver b)) (sym (here b dev less)) ∙ ap (λ (x : Machine). word x (slice_get x.stations dev)) (machine_told s m b cs h)
+  told_here word s m b cs dev less h = search (rules, here)
 
   named_here : (s : Setup) (m : Told) (b b' : Bench X V) (cs : List (Connection Seat)) (dev : ℕ) → bench_front b' ≡ bench_front b → Holds driver s m b cs
       → device_name (bench_front b') dev ≡ desc_device_name s.desc dev
@@ -237,9 +196,7 @@ module _ {X : Type 0} {V : X → Type 0} (driver : Plug X V → Driver) where
   plugged_word : (s : Setup) (m : Told) (b : Bench X V) (cs : List (Connection Seat)) (dev : ℕ) → Holds driver s m b cs
       → unplugged_word (is_plugged (bench_machine driver b) dev && not (is_average (kind_at (bench_front b) dev)))
       ≡ unplugged_word (is_plugged (machine_of m) dev && not (is_average (kind_at (front_of s) dev)))
-  plugged_word s m b cs dev h =
-      ap (λ (f : Front). unplugged_word (is_plugged (bench_machine driver b) dev && not (is_average (kind_at f dev)))) h.front_is
-      ∙ ap (λ (x : Machine). unplugged_word (is_plugged x dev && not (is_average (kind_at (front_of s) dev)))) (machine_told s m b cs h)
+  plugged_word s m b cs dev h = cc
 
   pub unplug_makes : (dev : ℕ) (b b' : Bench X V) (cs : List (Connection Seat)) (before after name : List ℕ) (was : Bool) → dev < length (bench_front b).devices
       → bench_front b' ≡ bench_front b

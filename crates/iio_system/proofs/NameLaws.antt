@@ -1,8 +1,8 @@
 -- The names of connections, and their places.
-use Rattle.std.proofs.Common.{◌≡◌, ℕ, suc, zero, ◌<◌, ◌≤◌, ◌||◌, nat_lt, Bool, true, false, cond, List, [], ◌∷◌, length, map, get_or, Option, Some, None, is_some, refl, sym, ap, ◌∙◌, arith, inl, inr}
-use Rattle.std.specs.List.{list_any, position, position_or_len}
+use Rattle.std.proofs.Common.{◌≡◌, ℕ, suc, zero, ◌<◌, ◌≤◌, ◌||◌, nat_lt, Bool, true, false, cond, List, [], ◌∷◌, length, map, get_or, Option, Some, None, is_some, refl, sym, ap, ◌∙◌, arith, rules}
+use Rattle.std.proofs.lemmas.Grind.{common_steps}
+use Rattle.std.specs.List.{list_any, position}
 use Rattle.std.specs.Str.{bytes_eq}
-use Rattle.std.proofs.lemmas.Bool.{cases_lt}
 use Rattle.std.proofs.lemmas.Bool.Decides.{nat_tests}
 use Rattle.std.proofs.lemmas.List.Folds.{list_any_at, list_any_none}
 use Rattle.std.proofs.lemmas.List.Quantifiers.{position-Some}
@@ -17,8 +17,7 @@ use Rattle.iio_system.specs.Standing.{has_room, name_by}
 use Rattle.iio_system.specs.System.{AreLines, IsServed}
 
 or_true : (b : Bool) → (b || true) ≡ true
-or_true true = refl
-or_true false = refl
+or_true b = search rules
 
 module _ {S : Type 0} (name : List ℕ) where
   abbrev pub is_named : Connection S → Bool
@@ -35,12 +34,7 @@ module _ {S : Type 0} (name : List ℕ) where
 
   -- there is no connection of that name
   pub none_named : (cs : List (Connection S)) → position is_named cs ≡ None → (i : ℕ) (d : Connection S) → i < length cs → is_named (get_or cs i d) ≡ false
-  none_named cs none i d within = elim (cases_lt (position_or_len is_named cs) (length cs)) [
-    | inl less ↦
-        let inside : nat_lt (position_or_len is_named cs) (length cs) ≡ true = grind (arith, nat_tests, less) in
-        let some : Some (position_or_len is_named cs) ≡ None = ap (λ (b : Bool). cond b (Some (position_or_len is_named cs)) None) (sym inside) ∙ none in cc
-    | inr more ↦ fails_before_first is_named cs i d (omega (arith, more, within))
-  ]
+  none_named cs none i d within = search (rules, fails_before_first)
 
   pub unknown : (cs : List (Connection S)) → position is_named cs ≡ None → is_known (map name_by cs) name ≡ false
   unknown cs none = known_as cs ∙ list_any_none is_named cs (λ i d within. none_named cs none i d within)
@@ -77,8 +71,7 @@ module _ {S : Type 0} (name : List ℕ) where
   length_names (c ∷ cs) = ap (λ (n : ℕ). suc n) (length_names cs)
 
   room_by : (cs : List (Connection S)) (b : Bool) → nat_lt (length cs) max_names ≡ b → has_room (map name_by cs) name ≡ is_known (map name_by cs) name || b
-  room_by cs b room =
-      ap (λ (n : ℕ). is_known (map name_by cs) name || nat_lt n max_names) (length_names cs) ∙ ap (λ (b : Bool). is_known (map name_by cs) name || b) room
+  room_by cs b room = grind (arith, common_steps)
 
   -- while there are few names, there is room for each one
   pub room_short : (cs : List (Connection S)) → length cs < max_names → has_room (map name_by cs) name ≡ true
@@ -90,5 +83,4 @@ module _ {S : Type 0} (name : List ℕ) where
 
   -- otherwise there is room for those that are known
   pub room_full : (cs : List (Connection S)) (o : Option ℕ) → o ≡ position is_named cs → max_names ≤ length cs → has_room (map name_by cs) name ≡ is_some o
-  room_full cs None at full = room_by cs false (grind (arith, nat_tests)) ∙ ap (λ (b : Bool). b || false) (unknown cs (sym at))
-  room_full cs (Some i) at full = room_by cs false (grind (arith, nat_tests)) ∙ ap (λ (b : Bool). b || false) (known_at cs i (sym at))
+  room_full cs o at full = grind (arith, common_steps, unknown, known_at)

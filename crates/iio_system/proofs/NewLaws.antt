@@ -1,5 +1,5 @@
 -- A connection that is new.
-use Rattle.std.proofs.Common.{◌≡◌, ℕ, suc, ◌||◌, Bool, true, false, cond, List, [], ◌∷◌, ◌++◌, length, map, Option, Some, None, option_map, is_some, refl, sym, ap, ◌∙◌, subst, true≢false}
+use Rattle.std.proofs.Common.{◌≡◌, ℕ, suc, Bool, true, false, cond, List, [], ◌∷◌, ◌++◌, length, map, Option, Some, None, option_map, refl, sym, ap, ◌∙◌, subst, true≢false, rules}
 use Rattle.std.specs.Str.{bytes_eq}
 use Rattle.iiod_grammar.specs.Stream.{InLine, items_from, scanner_after}
 use Rattle.iiod_commands.specs.declared.manner.Manner.TheVariants.{Script}
@@ -28,12 +28,7 @@ use Rattle.iio_system.proofs.LineLaws.{OthersAre, clients_kept, every_line_there
 -- there is no connection of that name
 pub none_in : (name : List ℕ) (ls : List Line) → line_named name ls ≡ None → is_in (map name_of ls) name ≡ false
 none_in name [] none = refl
-none_in name (l ∷ ls) none = by (bytes_eq l.user.who name) none (none_in name ls)
-  where
-    by : (b : Bool) → cond b (Some l) (line_named name ls) ≡ None → (line_named name ls ≡ None → is_in (map name_of ls) name ≡ false)
-        → (b || is_in (map name_of ls) name) ≡ false
-    by true none rest = cc
-    by false none rest = rest none
+none_in name (l ∷ ls) none = search (rules, none_in name ls)
 
 user_none : (m : Told) (name : List ℕ) → line_named name m.lines ≡ None → user_named name (registry_of m).users ≡ None
 user_none m name none = user_of_line name m.lines ∙ ap (λ (o : Option Line). option_map user_of o) none
@@ -47,9 +42,7 @@ new_begun m name none = ap (λ (o : Option Line). elim o [ None ↦ InLine [] | 
 new_lines : (s : Setup) (m : Told) (name bytes : List ℕ) → line_named name m.lines ≡ None
     → (step s m (Arrived name bytes)).lines ≡ map (line_after s (registry_of m) (Arrived name bytes)) m.lines ++ new_line (Arrived name bytes) (new_user s name)
     ∷ []
-new_lines s m name bytes none =
-    ap (λ (o : Option ConnectionRecord). map (line_after s (registry_of m) (Arrived name bytes)) m.lines
-    ++ map (new_line (Arrived name bytes)) (cond (is_some o) [] (new_user s name ∷ []))) (user_none m name none)
+new_lines s m name bytes none = simp (user_none)
 
 -- the line at the end
 last_named : (name : List ℕ) (f : Line → Line) (x : Line) (ls : List Line) → ((l : Line) → (f l).user.who ≡ l.user.who) → line_named name ls ≡ None
@@ -61,8 +54,7 @@ last_named name f x (l ∷ ls) who none own =
   where
     by : (b : Bool) → cond b (Some l) (line_named name ls) ≡ None → (line_named name ls ≡ None → line_named name (map f ls ++ x ∷ []) ≡ Some x)
         → cond b (Some (f l)) (line_named name (map f ls ++ x ∷ [])) ≡ Some x
-    by true none rest = cc
-    by false none rest = rest none
+    by b none rest = search rules
 
 module _ {S : Type 0} (seen : S → SeatRecord) where
   -- another one at the end of both

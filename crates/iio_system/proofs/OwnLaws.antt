@@ -1,7 +1,7 @@
 -- The line of the connection that is heard.
-use Rattle.std.proofs.Common.{◌≡◌, ℕ, suc, zero, ◌<◌, ◌||◌, Bool, true, false, cond, List, [], ◌∷◌, length, map, get_or, set, Option, Some, option_map, refl, sym, ap, ◌∙◌, subst, append-nil, arith}
+use Rattle.std.proofs.Common.{◌≡◌, ℕ, suc, zero, ◌<◌, ◌||◌, Bool, true, false, List, [], ◌∷◌, length, map, get_or, set, Option, Some, option_map, refl, sym, ap, ◌∙◌, arith, rules}
 use Rattle.std.specs.Str.{bytes_eq}
-use Rattle.iiod_grammar.specs.Stream.{Item, End}
+use Rattle.iiod_grammar.specs.Stream.{Item}
 use Rattle.iio_core.specs.Front.{Front}
 use Rattle.iiod_commands.specs.Seat.{SeatRecord}
 use Rattle.iiod_session.specs.Session.{SessionRecord}
@@ -13,7 +13,6 @@ use Rattle.iio_history.specs.Played.{steps}
 use Rattle.iio_history.specs.Transcript.{line_named}
 use Rattle.iio_history.specs.Bench.{AreDistinct, is_in, name_of}
 use Rattle.iio_history.specs.BenchLaw.{heard}
-use Rattle.iio_history.proofs.BenchLists.{name_same}
 use Rattle.iio_bench.specs.declared.connection.Connection.{Connection}
 use Rattle.iio_system.specs.System.{AreLines, IsServed}
 use Rattle.iio_system.proofs.EndLaws.{has_end, is_end}
@@ -22,45 +21,23 @@ use Rattle.iio_system.proofs.LineLaws.{OthersAre}
 pub line_mapped : (name : List ℕ) (f : Line → Line) → ((l : Line) → (f l).user.who ≡ l.user.who) → (ls : List Line)
     → line_named name (map f ls) ≡ option_map f (line_named name ls)
 line_mapped name f who [] = refl
-line_mapped name f who (l ∷ ls) =
-    ap (λ (w : List ℕ). cond (bytes_eq w name) (Some (f l)) (line_named name (map f ls))) (who l) ∙ by (bytes_eq l.user.who name) (line_mapped name f who ls)
-  where
-    by : (b : Bool) → line_named name (map f ls) ≡ option_map f (line_named name ls)
-        → cond b (Some (f l)) (line_named name (map f ls)) ≡ option_map f (cond b (Some l) (line_named name ls))
-    by true h = refl
-    by false h = h
+line_mapped name f who (l ∷ ls) = search (rules, line_mapped name f who ls)
 
 pub line_found : (name : List ℕ) (ls : List Line) (l : Line) → line_named name ls ≡ Some l → bytes_eq l.user.who name ≡ true
 line_found name [] l is = cc
-line_found name (x ∷ ls) l is = by (bytes_eq x.user.who name) refl is (line_found name ls l)
-  where
-    by : (b : Bool) → bytes_eq x.user.who name ≡ b → cond b (Some x) (line_named name ls) ≡ Some l
-        → (line_named name ls ≡ Some l → bytes_eq l.user.who name ≡ true) → bytes_eq l.user.who name ≡ true
-    by true own h rest = let one : x ≡ l = cc in ap (λ (y : Line). bytes_eq y.user.who name) (sym one) ∙ own
-    by false other h rest = rest h
+line_found name (x ∷ ls) l is = search (rules, line_found name ls l)
 
 -- what an item makes of the line of its connection
 own_ended : (s : Setup) (m : Told) (name : List ℕ) (item : Item) (l : Line) → bytes_eq l.user.who name ≡ true
     → (line_after s (registry_of m) (Heard name item) l).user.ended ≡ (l.user.ended || is_end item)
-own_ended s m name (End error) l own = ap (λ (b : Bool). l.user.ended || b) own
-own_ended s m name item l own = sym (or_false l.user.ended)
-  where
-    or_false : (b : Bool) → (b || false) ≡ b
-    or_false true = refl
-    or_false false = refl
+own_ended s m name item l own = search rules
 
 pub own_items : (s : Setup) (m : Told) (name : List ℕ) (items : List Item) (l : Line) → line_named name m.lines ≡ Some l
     → (l' : Line) × (line_named name (steps s m (heard name items)).lines ≡ Some l') × (l'.user.ended ≡ (l.user.ended || has_end items)) × (l'.begun ≡ l.begun)
-own_items s m name [] l is = (l, is, sym (or_false l.user.ended), refl)
-  where
-    or_false : (b : Bool) → (b || false) ≡ b
-    or_false true = refl
-    or_false false = refl
+own_items s m name [] l is = search rules
 own_items s m name (item ∷ items) l is =
     let f : Line → Line = line_after s (registry_of m) (Heard name item) in
-    let next : line_named name (step s m (Heard name item)).lines ≡ Some (f l) =
-    ap (λ (ls : List Line). line_named name ls) (append-nil (map f m.lines)) ∙ line_mapped name f (λ x. refl) m.lines
-    ∙ ap (λ (o : Option Line). option_map f o) is in
+    let next : line_named name (step s m (Heard name item)).lines ≡ Some (f l) = search (rules, line_mapped) in
     let rest = own_items s (step s m (Heard name item)) name items (f l) next in (
       rest.0,
       rest.1,
@@ -70,8 +47,7 @@ own_items s m name (item ∷ items) l is =
     )
   where
     regroup : (a b c : Bool) → ((a || b) || c) ≡ (a || (b || c))
-    regroup true b c = refl
-    regroup false b c = refl
+    regroup a b c = search rules
 
 module _ {S : Type 0} (seen : S → SeatRecord) where
   -- a connection with another session, or none
@@ -88,8 +64,7 @@ module _ {S : Type 0} (seen : S → SeatRecord) where
       (record { name = are.0; served = are.1 parts.0 }, all_others front m name ls cs parts.1 are.2)
     where
       either : (a b : Bool) → (a || b) ≡ false → (a ≡ false) × (b ≡ false)
-      either true b h = absurd (cc)
-      either false b h = (refl, h)
+      either a b h = search rules
 
   -- the other lines, and that of the connection that was heard
   pub rejoined : (front : Front) (m : Told) (name : List ℕ) (o : Option (SessionRecord S)) (i : ℕ) (d : Connection S) (ls : List Line)
@@ -99,13 +74,7 @@ module _ {S : Type 0} (seen : S → SeatRecord) where
       → IsServed seen front m l o → AreLines seen front m ls (set cs i (with_session o (get_or cs i d)))
   rejoined front m name o i d [] cs l distinct are is less before here served = cc
   rejoined front m name o i d (x ∷ ls) [] l distinct are is less before here served = absurd are
-  rejoined front m name o zero d (x ∷ ls) (c ∷ cs) l distinct are is less before here served =
-      let own : bytes_eq x.user.who name ≡ true = ap (λ (w : List ℕ). bytes_eq w name) (sym are.0) ∙ here in
-      let found : Some x ≡ Some l = rw own at is in
-      let one : x ≡ l = cc in (
-        record { name = are.0; served = subst (λ (y : Line). IsServed seen front m y o) (sym one) served },
-        all_others front m name ls cs (ap (λ (w : List ℕ). is_in (map name_of ls) w) (sym (name_same x.user.who name own)) ∙ distinct.0) are.2,
-      )
+  rejoined front m name o zero d (x ∷ ls) (c ∷ cs) l distinct are is less before here served = search (rules, all_others)
   rejoined front m name o (suc i) d (x ∷ ls) (c ∷ cs) l distinct are is less before here served =
       let other : bytes_eq x.user.who name ≡ false = ap (λ (w : List ℕ). bytes_eq w name) (sym are.0) ∙ before 0 (omega arith) in (
         record { name = are.0; served = are.1 other },

@@ -1,8 +1,7 @@
 -- What feeds and drops make of a bench and its connections.
-use Rattle.std.proofs.Common.{◌≡◌, ℕ, suc, zero, ◌<◌, ◌≤◌, Bool, true, false, cond, List, [], ◌∷◌, ◌++◌, ◌+◌, nat_lt, length, length-append, map, get_or, set, Option, Some, None, is_some, Result, Ok, Err, OnOk, refl, sym, ap, ◌∙◌, subst, arith, one-add}
+use Rattle.std.proofs.Common.{◌≡◌, ℕ, suc, zero, ◌<◌, ◌≤◌, Bool, true, false, List, [], ◌∷◌, ◌++◌, ◌+◌, length, map, get_or, set, Option, Some, None, is_some, Result, Ok, Err, OnOk, refl, sym, ap, ◌∙◌, subst, arith, one-add, rules}
+use Rattle.std.proofs.lemmas.Grind.{common_steps}
 use Rattle.std.specs.List.{position}
-use Rattle.std.proofs.lemmas.Bool.Decides.{nat_tests}
-use Rattle.std.proofs.lemmas.List.Elements.{All-push}
 use Rattle.std.proofs.lemmas.List.Quantifiers.{position-Some}
 use Rattle.iio_base.specs.declared.Mem.{Mem}
 use Rattle.iio_core.specs.Front.{Front}
@@ -35,8 +34,7 @@ use Rattle.iio_system.proofs.NameLaws.{is_named, known_at, none_named, room_left
 use Rattle.iio_system.proofs.OwnLaws.{with_session}
 
 pub on_ok : {A P : Type 0} (r : Result A Mem) → P → OnOk r P
-on_ok (Ok x) p = p
-on_ok (Err e) p = tt
+on_ok r p = search rules
 
 -- ---- names
 
@@ -50,10 +48,7 @@ names_set (x ∷ cs) (suc i) d c within same = ap (λ (ns : List (List ℕ)). x.
 pub names_there : (cs : List (Connection Seat)) (i : ℕ) (c c' : Connection Seat) (name bytes : List ℕ) → Some i ≡ position (is_named name) cs
     → c ≡ get_or cs i c → c'.name ≡ c.name
     → map name_by (set cs i c') ≡ names_with (map name_by cs) (Feed name bytes)
-names_there cs i c c' name bytes at is same =
-    let place = position-Some (is_named name) cs i c (sym at) in
-    names_set cs i c c' place.0 (same ∙ ap name_by is)
-    ∙ ap (λ (b : Bool). cond b (map name_by cs) (map name_by cs ++ name ∷ [])) (sym (known_at name cs i (sym at)))
+names_there cs i c c' name bytes at is same = search (rules, names_set, known_at)
 
 pub names_kept : (cs : List (Connection Seat)) (i : ℕ) (c c' : Connection Seat) (name : List ℕ) → Some i ≡ position (is_named name) cs → c ≡ get_or cs i c
     → c'.name ≡ c.name → map name_by (set cs i c') ≡ map name_by cs
@@ -62,27 +57,17 @@ names_kept cs i c c' name at is same = names_set cs i c c' (position-Some (is_na
 -- a connection that is new is the last
 pub names_new : (cs : List (Connection Seat)) (c' : Connection Seat) (name bytes : List ℕ) → None ≡ position (is_named name) cs → c'.name ≡ name
     → map name_by (cs ++ c' ∷ []) ≡ names_with (map name_by cs) (Feed name bytes)
-names_new cs c' name bytes at same =
-    last cs ∙ ap (λ (n : List ℕ). map name_by cs ++ n ∷ []) same
-    ∙ ap (λ (b : Bool). cond b (map name_by cs) (map name_by cs ++ name ∷ [])) (sym (unknown name cs (sym at)))
-  where
-    last : (cs : List (Connection Seat)) → map name_by (cs ++ c' ∷ []) ≡ map name_by cs ++ c'.name ∷ []
-    last [] = refl
-    last (c ∷ cs) = ap (λ (ns : List (List ℕ)). c.name ∷ ns) (last cs)
+names_new cs c' name bytes at same = grind (arith, common_steps, unknown)
 
 -- ---- room, and what is owned
 
 pub more_fit : (cs : List (Connection Seat)) (c : Connection Seat) (name : List ℕ) → None ≡ position (is_named name) cs → has_room (map name_by cs) name ≡ true
     → length (cs ++ c ∷ []) ≤ max_names
-more_fit cs c name at room =
-    let less : nat_lt (length cs) max_names ≡ true = sym (room_left name cs at) ∙ room in
-    let more : length (cs ++ c ∷ []) ≡ length cs + 1 = length-append cs (c ∷ []) in
-    grind (arith, nat_tests, less, more)
+more_fit cs c name at room = grind (arith, common_steps, room_left)
 
 pub more_owned : (front front' : Front) (cs : List (Connection Seat)) (c : Connection Seat) → front' ≡ front → AreOwning seen_of front cs
     → IsOwning seen_of front' c.session → AreOwning seen_of front' (cs ++ c ∷ [])
-more_owned front front' cs c same owned own =
-    All-push (λ (e : Connection Seat). IsOwning seen_of front' e.session) cs c (subst (λ (f : Front). AreOwning seen_of f cs) (sym same) owned) own
+more_owned front front' cs c same owned own = grind (arith, common_steps)
 
 -- ---- the whole
 

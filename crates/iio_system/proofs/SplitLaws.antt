@@ -1,5 +1,6 @@
 -- A connection that is fed at its place, between those before it and those after it.
-use Rattle.std.proofs.Common.{◌≡◌, ℕ, List, [], ◌∷◌, ◌++◌, drop, length, map, get_or, set, take, take_at, length-set, Option, Some, Result, OnOk, refl, sym, ap, ◌∙◌, subst}
+use Rattle.std.proofs.Common.{◌≡◌, ℕ, List, [], ◌∷◌, ◌++◌, drop, length, map, get_or, set, take, Some, Result, OnOk, refl, sym, ap, ◌∙◌, subst, arith, rules}
+use Rattle.std.proofs.lemmas.Grind.{common_steps}
 use Rattle.std.specs.List.{position}
 use Rattle.std.proofs.lemmas.List.Elements.{All-set}
 use Rattle.std.proofs.lemmas.List.Quantifiers.{position-Some}
@@ -18,7 +19,7 @@ use Rattle.iio_bench.specs.Feeding.{Feeds, IsOwning, feed_state}
 use Rattle.iio_bench.specs.Seat.{seen_of}
 use Rattle.iio_system.specs.Standing.{MakesFeed, name_by, names_with, step_state}
 use Rattle.iio_system.proofs.NameLaws.{is_named}
-use Rattle.iio_system.proofs.PlayLaws.{feeds_there, names_kept, names_there}
+use Rattle.iio_system.proofs.PlayLaws.{feeds_there, names_there}
 
 -- it is between these, at the place of that name
 pub record StandsAt (name : List ℕ) (cs before : List (Connection Seat)) (c : Connection Seat) (after : List (Connection Seat)) : Type 0 where
@@ -28,10 +29,7 @@ pub record StandsAt (name : List ℕ) (cs before : List (Connection Seat)) (c : 
 pub stands_at : (name : List ℕ) (cs before rest : List (Connection Seat)) (c : Connection Seat) (after : List (Connection Seat)) (i : ℕ) → cs ≡ before ++ rest
     → rest ≡ c ∷ after → length before ≡ i
     → Some i ≡ position (is_named name) cs → StandsAt name cs before c after
-stands_at name cs before rest c after i two one many place = record {
-  parts = two ∙ ap (λ (ds : List (Connection Seat)). before ++ ds) one;
-  place = ap (λ (n : ℕ). (let o : Option ℕ = Some n in o)) many ∙ place;
-}
+stands_at name cs before rest c after i two one many place = search rules
 
 there_or : (before : List (Connection Seat)) (c : Connection Seat) (after : List (Connection Seat)) → c ≡ get_or (before ++ c ∷ after) (length before) c
 there_or [] c after = refl
@@ -53,9 +51,7 @@ module _ (name : List ℕ) (cs before : List (Connection Seat)) (c : Connection 
   -- the list of a vector of that length that was written there
   pub written : (n : ℕ) (c' : Connection Seat) → length cs ≡ n
       → take n ((before ++ c' ∷ after) ++ drop (length (before ++ c' ∷ after)) cs) ≡ before ++ c' ∷ after
-  written n c' many =
-      take_at (before ++ c' ∷ after) (drop (length (before ++ c' ∷ after)) cs) n
-      (ap (λ (ds : List (Connection Seat)). length ds) (sym (put c')) ∙ length-set cs (length before) c' ∙ many)
+  written n c' many = grind (arith, common_steps)
 
   -- it has that name
   pub named_there : c.name ≡ name
@@ -68,8 +64,7 @@ module _ (name : List ℕ) (cs before : List (Connection Seat)) (c : Connection 
       ap (λ (ds : List (Connection Seat)). map name_by ds) (is ∙ sym (put c')) ∙ names_there cs (length before) c c' name bytes at.place there same
 
   pub kept_between : (c' : Connection Seat) (cs' : List (Connection Seat)) → cs' ≡ before ++ c' ∷ after → c'.name ≡ c.name → map name_by cs' ≡ map name_by cs
-  kept_between c' cs' is same =
-      ap (λ (ds : List (Connection Seat)). map name_by ds) (is ∙ sym (put c')) ∙ names_kept cs (length before) c c' name at.place there same
+  kept_between c' cs' is same = grind (arith, common_steps)
 
   pub owned_between : (front front' : Front) (c' : Connection Seat) (cs' : List (Connection Seat)) → cs' ≡ before ++ c' ∷ after → front' ≡ front
       → AreOwning seen_of front cs → IsOwning seen_of front' c'.session

@@ -1,24 +1,22 @@
 -- A new bench holds the state before the first step.
-use Rattle.std.proofs.Common.{◌≡◌, ℕ, suc, zero, ◌+◌, ◌<◌, ◌≤◌, ◌*◌, ◌-◌, ◌^◌, List, [], ◌∷◌, ◌++◌, map, fold, length, slice_get, Option, Some, None, option_map, All, refl, sym, ap, ◌∙◌, subst, arith}
-use Rattle.std.specs.Prelude.{ℤ}
+use Rattle.std.proofs.Common.{◌≡◌, ℕ, suc, zero, ◌+◌, ◌<◌, ◌≤◌, ◌*◌, ◌-◌, ◌^◌, List, [], ◌∷◌, ◌++◌, map, fold, length, slice_get, Some, option_map, All, refl, sym, ap, ◌∙◌, subst, arith, rules}
 use Rattle.iio_sensor.specs.Driver.{Driver}
 use Rattle.iio_mask.specs.Mask.{has}
-use Rattle.iio_derive.specs.Window.{Window}
 use Rattle.iio_output.specs.Last.{first_last}
 use Rattle.iio_desc.specs.declared.description.AttrDesc.{AttrDesc}
 use Rattle.iio_desc.specs.Description.{AverageRecord, Description, DeviceHead, DeviceRecord, OutputRecord, average_head, average_shape, heads_of, input_head, output_head, shape_of_means}
 use Rattle.iio_desc.specs.WellFormed.{IsWellFormed, IsWellFormedAverage, IsWellFormedDevice, IsWellFormedOutput}
 use Rattle.iio_device.specs.declared.plug.Plug.{Plug}
-use Rattle.iio_device.specs.Site.{Site, new_site, number_in, with_attr}
+use Rattle.iio_device.specs.Site.{Site, new_site, with_attr}
 use Rattle.iio_device.specs.Totals.{no_totals}
-use Rattle.iio_core.specs.Machine.{Machine, Station as MachineStation}
+use Rattle.iio_core.specs.Machine.{Station as MachineStation}
 use Rattle.iio_core.specs.Front.{first_front}
 use Rattle.iio_history.specs.Who.{Who}
 use Rattle.iio_core.specs.Lists.{map_from}
-use Rattle.iio_history.specs.Registry.{Device, Member as ToldMember, Setup}
+use Rattle.iio_history.specs.Registry.{Device, Setup}
 use Rattle.iio_history.specs.Fold.{first_average, first_device, first_devices, first_driver, first_output}
-use Rattle.iio_history.specs.Told.{Seat, last_of, seat_told, station_told, told}
-use Rattle.iio_history.specs.Bench.{Every, HasDeviceSizes, bench_by, machine_of as machine_told, numbered, site_by}
+use Rattle.iio_history.specs.Told.{station_told, told}
+use Rattle.iio_history.specs.Bench.{Every, HasDeviceSizes, bench_by, machine_of as machine_told, site_by}
 use Rattle.iio_history.specs.BenchLaw.{CanJoinMore}
 use Rattle.iio_history.proofs.BenchKept.{first_bench, room_lasts}
 use Rattle.iio_history.proofs.BenchSites.{written_same}
@@ -68,12 +66,7 @@ some_channels drivers desc formed =
 
 written_all : (site : Site Who) (attrs : List AttrDesc) → site_by [] (fold with_attr site attrs) ≡ fold with_attr (site_by [] site) attrs
 written_all site [] = refl
-written_all site (a ∷ attrs) =
-    written_all (with_attr site a) attrs ∙ ap (λ (x : Site ℕ). fold with_attr x attrs) (written_same [] a.channel a.attr (number_in a.value) site)
-
--- what the told state has at a place before the first step
-last_at : (s : Setup) (k : ℕ) (d : Device) → slice_get (first_devices s) k ≡ Some d → last_of s k [] ≡ first_last d.shape
-last_at s k d at = ap (λ (o : Option Device). elim o [ None ↦ [] | Some x ↦ first_last x.shape ]) at
+written_all site (a ∷ attrs) = simp (written_same, written_all (with_attr site a) attrs)
 
 -- a device of a bench is told as it is
 pub record IsFirst (s : Setup) (d : Device) (st : MachineStation) : Type 0 where
@@ -114,20 +107,7 @@ are_first s (d ∷ ds) xs means = (input_first s d, are_first s ds xs means)
 
 station_first : (s : Setup) (k : ℕ) (d : Device) (st : MachineStation) → slice_get (first_devices s) k ≡ Some d → IsFirst s d st
     → bench_by [] (station_told s [] k d) ≡ st
-station_first s k d st at is =
-    let seats : map (seat_told s [] k d.shape) d.members ≡ [] = ap (λ (ms : List ToldMember). map (seat_told s [] k d.shape) ms) is.members in
-    ap (λ (xs : List Seat). (let x : MachineStation =
-    record { next = 0; captures = 0; totals = no_totals; members = map numbered xs; site = site_by [] d.site; last = last_of s k []; window = d.window } in x))
-    seats
-    ∙ ap (λ (site : Site ℕ).
-    (let x : MachineStation = record { next = 0; captures = 0; totals = no_totals; members = []; site = site; last = last_of s k []; window = d.window } in x))
-    is.site
-    ∙ ap (λ (last : List ℤ).
-    (let x : MachineStation = record { next = 0; captures = 0; totals = no_totals; members = []; site = st.site; last = last; window = d.window } in x))
-    (last_at s k d at ∙ is.last)
-    ∙ ap (λ (w : Window). (let x : MachineStation =
-    record { next = 0; captures = 0; totals = no_totals; members = []; site = st.site; last = st.last; window = w } in x)) is.window
-    ∙ sym is.rest
+station_first s k d st at is = search rules
 
 stations_first : (s : Setup) (n : ℕ) (ds : List Device) (sts : List MachineStation) → ((k : ℕ) → slice_get (first_devices s) (n + k) ≡ slice_get ds k)
     → AreFirst s ds sts → map (bench_by []) (map_from (station_told s []) n ds) ≡ sts
@@ -152,12 +132,7 @@ room_first s used none = subst (λ (n : ℕ). Every (CanJoinMore (2 ^ 64 - 1 - 3
 module _ {X : Type 0} {V : X → Type 0} (driver : Plug X V → Driver) where
   pub holds_first : (s : Setup) (b : Bench X V) → front_of b ≡ first_front s.desc → machine_of driver b ≡ first_machine s.drivers s.desc
       → Every HasDeviceSizes (heads_of s.desc) → Holds driver s (told s []) b []
-  holds_first s b front machine sizes = record {
-    front_is = front;
-    told_is = ap (λ (m : Machine). Some m) (machine ∙ machine_first s);
-    bench = first_bench s sizes;
-    lines = tt;
-  }
+  holds_first s b front machine sizes = search (rules, machine_first, first_bench)
 
 pub none_within : {D : Type 0} (f : D → ℕ) (n : ℕ) (ds : List D) → All (λ (d : D). f d ≡ 0) ds → All (λ (c : ℕ). c ≤ n) (map f ds)
 none_within f n [] none i c within = absurd (omega (arith, within))

@@ -1,23 +1,19 @@
 -- A step of a system, by the history.
-use Rattle.std.proofs.Common.{◌≡◌, ℕ, suc, ◌+◌, ◌*◌, ◌-◌, ◌^◌, ◌<◌, ◌≤◌, ℤ, Bool, true, false, cond, List, [], ◌∷◌, ◌++◌, length, map, All, OnOk, Result, Ok, Err, sym, ap, ◌∙◌, subst, arith}
-use Rattle.std.proofs.lemmas.List.{length-map}
+use Rattle.std.proofs.Common.{◌≡◌, ℕ, suc, ◌+◌, ◌*◌, ◌-◌, ◌^◌, ◌<◌, ◌≤◌, ℤ, List, [], ◌∷◌, ◌++◌, length, map, All, OnOk, Result, Ok, Err, sym, ap, ◌∙◌, subst, arith, rules}
+use Rattle.std.proofs.lemmas.Grind.{common_steps}
 use Rattle.iiod_grammar.specs.Stream.{Item, items_from}
-use Rattle.iio_core.specs.Attached.{Attachment, entries_from, is_attached}
-use Rattle.iio_core.specs.Machine.{Machine}
+use Rattle.iio_core.specs.Attached.{Attachment, entries_from}
 use Rattle.iio_base.specs.declared.Mem.{Mem}
 use Rattle.iio_sensor.specs.Driver.{Driver}
-use Rattle.iio_trigger.specs.Trigger.{Handed}
 use Rattle.iio_desc.specs.declared.limits.TheConstants.{MAX_DEVICES}
 use Rattle.iio_device.specs.declared.plug.Plug.{Plug}
-use Rattle.iio_device.specs.Site.{is_empty, no_driver}
-use Rattle.iio_history.specs.Event.{Event, Arrived, Handled, Heard, Polled}
-use Rattle.iio_history.specs.Registry.{Setup, has_ended, attachments_of, attachment_of}
-use Rattle.iio_core.specs.Trigger.{entries_at}
-use Rattle.iio_history.specs.Told.{Told, device_of, registry_of, told}
+use Rattle.iio_history.specs.Event.{Event, Heard}
+use Rattle.iio_history.specs.Registry.{Setup}
+use Rattle.iio_history.specs.Told.{Told, told}
 use Rattle.iio_history.specs.Machine.{step}
 use Rattle.iio_history.specs.Played.{state_after, steps}
 use Rattle.iio_history.specs.Transcript.{begun_by, events_of_step, lines_of_step, with_step}
-use Rattle.iio_history.specs.Bench.{Every, bench_by, names_of}
+use Rattle.iio_history.specs.Bench.{Every}
 use Rattle.iio_history.specs.BenchLaw.{CanJoinMore}
 use Rattle.iio_history.proofs.BenchKept.{room_after}
 use Rattle.iio_history.proofs.TranscriptLaws.{lines_are, state_is}
@@ -28,22 +24,14 @@ use Rattle.iio_system.specs.declared.step.Step.{Step as CodeStep}
 use Rattle.iio_system.specs.declared.step.Step.TheVariants as code
 use Rattle.iio_system.specs.declared.system.System.{System}
 use Rattle.iio_system.specs.Standing.{Holds, IsPerformed, MakesStep, RiseBy, StandsFor, names_by, names_with, step_state}
-use Rattle.iio_kinds.specs.Station.{any_station}
 use Rattle.iio_system.specs.Step.{cost_of, step_view}
 use Rattle.iio_system.proofs.ItemLemmas.{items_few, room_less}
-use Rattle.iio_system.proofs.MoveLaws.{machine_told as same_machine}
 
 -- ---- the events of a step are few
 
 entries_few : (k trigger : ℕ) (t : ℤ) (ds : List Attachment) → length (entries_from k trigger t ds) ≤ length ds
 entries_few k trigger t [] = omega arith
-entries_few k trigger t (d ∷ ds) = by (is_attached trigger d) (entries_few (suc k) trigger t ds)
-  where
-    by : (b : Bool) → length (entries_from (suc k) trigger t ds) ≤ length ds
-        → length (cond b (record { dev = k; attachment = d.number; t = t } ∷ entries_from (suc k) trigger t ds)
-        (entries_from (suc k) trigger t ds)) ≤ suc (length ds)
-    by true rest = omega (arith, rest)
-    by false rest = omega (arith, rest)
+entries_few k trigger t (d ∷ ds) = search (rules, entries_few (suc k) trigger t ds)
 
 room_steps : (s : Setup) (es : List Event) (m : Told) (a b : ℕ) → length es + b ≤ a → Every (CanJoinMore a) m.stations
     → Every (CanJoinMore b) (steps s m es).stations
@@ -53,43 +41,16 @@ room_steps s (e ∷ es) m a b less room =
     (room_after s m e (length es + b) (room_less (suc (length es + b)) a m.stations (omega (arith, less)) room))
 
 heard_few : (m : Told) (name bytes : List ℕ) → length (map (λ (item : Item). Heard name item) (items_from (begun_by name m.lines) bytes)) ≤ length bytes
-heard_few m name bytes =
-    let same = length-map (items_from (begun_by name m.lines) bytes) (λ (item : Item). Heard name item) in
-    let few = items_few (begun_by name m.lines) bytes in
-    omega (arith, same, few)
+heard_few m name bytes = grind (arith, common_steps, items_few)
 
 events_few : (m : Told) (t : CodeStep) → length m.stations ≤ MAX_DEVICES → length (events_of_step m (step_view t)) ≤ 32 * cost_of t
-events_few m (code.Feed name bytes) devices = by (has_ended name (registry_of m).users) (heard_few m name bytes)
-  where
-    by : (b : Bool) → length (map (λ (item : Item). Heard name item) (items_from (begun_by name m.lines) bytes)) ≤ length bytes
-        → length (cond b [] (Arrived name bytes ∷ map (λ (item : Item). Heard name item) (items_from (begun_by name m.lines) bytes))) ≤ 32 * (1 + length bytes)
-    by true few = omega arith
-    by false few = omega (arith, few)
-events_few m (code.Fire trigger t) devices = by (is_empty (entries_at m.triggers trigger))
-  where
-    as_many : length (attachments_of (registry_of m)) ≡ length m.stations
-    as_many = length-map (registry_of m).devices attachment_of ∙ length-map m.stations device_of
-
-    by : (b : Bool) → length
-        (Polled trigger t ∷ map (λ (e : Handed). Handled trigger e.dev) (cond b (entries_from 0 trigger t (attachments_of (registry_of m))) [])) ≤ 32 * 1
-    by true =
-        let same = length-map (entries_from 0 trigger t (attachments_of (registry_of m))) (λ (e : Handed). Handled trigger e.dev) in
-        let few = entries_few 0 trigger t (attachments_of (registry_of m)) in
-        omega (arith, same, few, as_many, devices)
-    by false = omega arith
-events_few m t devices = omega arith
+events_few m t devices = grind (arith, common_steps, heard_few, entries_few)
 
 -- ---- the step
 
 module _ {X : Type 0} {V : X → Type 0} (driver : Plug X V → Driver) where
   stations_few : (s : Setup) (m : Told) (b : Bench X V) (cs : List (Connection Seat)) → Holds driver s m b cs → length m.stations ≤ MAX_DEVICES
-  stations_few s m b cs holds =
-      let there = length-map b.devices.items (any_station driver) in
-      let counted = length-map b.devices.items (any_station (λ p. no_driver)) in
-      let told = length-map m.stations (bench_by (names_of m)) in
-      let same = ap (λ (machine : Machine). length machine.stations) (same_machine driver s m b cs holds) in
-      let few = b.sound.devices in
-      omega (arith, there, counted, told, same, few)
+  stations_few s m b cs holds = grind (arith, common_steps)
 
   pub stands_step : (s : Setup) (h : List Event) (x x' : System X V) (t : CodeStep) (before after : List ℕ) → x.used + cost_of t < 2 ^ 56
       → x'.used ≡ x.used + cost_of t
@@ -122,18 +83,14 @@ module _ {X : Type 0} {V : X → Type 0} (driver : Plug X V → Driver) where
       → OnOk r (names_by x' ≡ names_with (names_by x) (step_view t))
       → OnOk r (IsPerformed driver (step_view t) x x' before after)
   performed_ok x x' t before after (Err e) few used makes names = tt
-  performed_ok x x' t before after (Ok u) few used makes names = record {
-    lines = λ s h stands. stands_step s h x x' t before after few used makes stands;
-    names = names;
-  }
+  performed_ok x x' t before after (Ok u) few used makes names = search (rules, stands_step)
 
 -- captures stay within what was used
 pub rise_none : (old new : List ℕ) → new ≡ old → RiseBy 32 old new
 rise_none old new same n all = rw same (λ i d within. let few = all i d within in omega (arith, few))
 
 cost_some : (t : CodeStep) → 1 ≤ cost_of t
-cost_some (code.Feed name bytes) = omega arith
-cost_some t = omega arith
+cost_some t = search rules
 
 pub counted_more : (t : CodeStep) (used cost : ℕ) (old new : List ℕ) → cost ≡ cost_of t → RiseBy 32 old new → All (λ (n : ℕ). n ≤ 32 * used) old
     → All (λ (n : ℕ). n ≤ 32 * (used + cost)) new

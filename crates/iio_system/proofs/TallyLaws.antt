@@ -1,9 +1,10 @@
 -- What the devices counted is the summary of the history.
-use Rattle.std.proofs.Common.{◌≡◌, ℕ, ◌+◌, ◌-◌, ◌%◌, ◌^◌, List, [], ◌∷◌, map, refl, sym, ap, ◌∙◌, cond}
+use Rattle.std.proofs.Common.{◌≡◌, ℕ, ◌+◌, ◌-◌, ◌%◌, ◌^◌, List, [], ◌∷◌, map, refl, sym, ap, ◌∙◌, cond, rules, arith}
+use Rattle.std.proofs.lemmas.Grind.{common_steps}
 use Rattle.std.specs.List.{sum_by}
 use Rattle.std.proofs.lemmas.List.Sums.{sum_by-cons}
 use Rattle.iio_desc.specs.Description.{DeviceHead, heads_of}
-use Rattle.iio_desc.specs.Kind.{Kind, is_input, is_output}
+use Rattle.iio_desc.specs.Kind.{Kind, is_output}
 use Rattle.iio_sensor.specs.Driver.{Driver}
 use Rattle.iio_device.specs.declared.plug.Plug.{Plug}
 use Rattle.iio_core.specs.Front.{Front}
@@ -57,21 +58,15 @@ module _ {X : Type 0} {V : X → Type 0} where
 
   captures_told : (driver : Plug X V → Driver) (names : List (List ℕ)) (d : AnyDevice X V) (st : ToldStation) → any_station driver d ≡ bench_by names st
       → kind_by d ≡ st.kind → captures_by d ≡ captures_at st
-  captures_told driver names (any.Input d) st same kind = ap (λ (x : Station). x.captures) same ∙ ap (λ (k : Kind). cond (is_input k) st.captures 0) kind
-  captures_told driver names (any.Output x) st same kind = ap (λ (k : Kind). cond (is_input k) st.captures 0) kind
-  captures_told driver names (any.Average a) st same kind = ap (λ (k : Kind). cond (is_input k) st.captures 0) kind
+  captures_told driver names d st same kind = search rules
 
   scans_told : (driver : Plug X V → Driver) (names : List (List ℕ)) (d : AnyDevice X V) (st : ToldStation) → any_station driver d ≡ bench_by names st
       → kind_by d ≡ st.kind → scans_by d ≡ st.totals.scans
-  scans_told driver names (any.Input d) st same kind = ap (λ (x : Station). x.totals.scans) same
-  scans_told driver names (any.Output x) st same kind = ap (λ (x : Station). x.totals.scans) same
-  scans_told driver names (any.Average a) st same kind = ap (λ (x : Station). x.totals.scans) same
+  scans_told driver names d st same kind = search rules
 
   bytes_told : (driver : Plug X V → Driver) (names : List (List ℕ)) (d : AnyDevice X V) (st : ToldStation) → any_station driver d ≡ bench_by names st
       → kind_by d ≡ st.kind → bytes_by d ≡ st.totals.bytes
-  bytes_told driver names (any.Input d) st same kind = ap (λ (x : Station). x.totals.bytes) same
-  bytes_told driver names (any.Output x) st same kind = ap (λ (x : Station). x.totals.bytes) same
-  bytes_told driver names (any.Average a) st same kind = ap (λ (x : Station). x.totals.bytes) same
+  bytes_told driver names d st same kind = search rules
 
   overruns_told : (driver : Plug X V → Driver) (names : List (List ℕ)) (d : AnyDevice X V) (st : ToldStation) → any_station driver d ≡ bench_by names st
       → kind_by d ≡ st.kind → overruns_by d ≡ overruns_at st
@@ -82,12 +77,8 @@ module _ {X : Type 0} {V : X → Type 0} where
       ∙ ap overruns_of same
       ∙ ap (λ (n : ℕ). st.totals.lost + n) (sum_map (λ (m : Member). m.lost) numbered st.seats)
       ∙ ap (λ (k : Kind). cond (is_output k) 0 (st.totals.lost + sum_by (λ (x : Seat). x.queue.lost) st.seats)) kind
-  overruns_told driver names (any.Average a) st same kind =
-      ap overruns_of same
-      ∙ ap (λ (n : ℕ). st.totals.lost + n) (sum_map (λ (m : Member). m.lost) numbered st.seats)
-      ∙ ap (λ (k : Kind). cond (is_output k) 0 (st.totals.lost + sum_by (λ (x : Seat). x.queue.lost) st.seats)) kind
-  overruns_told driver names (any.Output x) st same kind =
-      ap (λ (k : Kind). cond (is_output k) 0 (st.totals.lost + sum_by (λ (x : Seat). x.queue.lost) st.seats)) kind
+  overruns_told driver names (any.Average a) st same kind = grind (arith, common_steps)
+  overruns_told driver names (any.Output x) st same kind = cc
 
   seen_tally : (driver : Plug X V → Driver) (names : List (List ℕ)) (ds : List (AnyDevice X V)) (sts : List ToldStation)
       → map (any_station driver) ds ≡ map (bench_by names) sts → map kind_of_head (map any_front ds) ≡ map kind_of_station sts

@@ -1,5 +1,5 @@
 -- Both worlds of an input that keeps to the grammar.
-use Rattle.std.proofs.Common.{◌≡◌, ℕ, Bool, true, false, List, [], ◌++◌, map, Option, Some, None, refl, sym, ap, ◌∙◌}
+use Rattle.std.proofs.Common.{◌≡◌, ℕ, Bool, true, false, List, [], ◌++◌, map, Option, Some, None, refl, sym, ap, ◌∙◌, rules}
 use Rattle.iio_text.specs.declared.refusals.Why.TheVariants.{Bystander}
 use Rattle.iio_sensor.specs.Driver.{Driver}
 use Rattle.iio_history.specs.Input.{is_overlong}

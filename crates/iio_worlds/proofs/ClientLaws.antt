@@ -1,55 +1,34 @@
 -- The seats of the connections that are there decide whether a step meets the rules.
-use Rattle.std.proofs.Common.{◌≡◌, ℕ, zero, suc, Ok, ◌==◌, ◌&&◌, ◌||◌, not, Bool, true, false, List, [], ◌∷◌, map, Option, Some, None, option_map, is_some, slice_get, cond, refl, sym, ap, ◌∙◌, subst, arith}
+use Rattle.std.proofs.Common.{◌≡◌, ℕ, zero, suc, ◌==◌, ◌&&◌, Bool, true, false, List, [], ◌∷◌, map, Option, Some, None, option_map, is_some, slice_get, cond, refl, sym, ap, ◌∙◌, arith, rules}
+use Rattle.std.proofs.lemmas.Grind.{common_steps}
 use Rattle.std.specs.Option.{option_map_or}
-use Rattle.std.specs.Str.{bytes_eq}
-use Rattle.std.proofs.lemmas.Slice.Eq.{bytes_eq-Decides}
 use Rattle.std.proofs.lemmas.Bool.{and_parts, and_from, or_parts, or_from, true≢false}
 use Rattle.std.proofs.lemmas.Bool.Decides.{nat_tests}
 use Rattle.iio_desc.specs.Kind.{Kind, Input, is_input}
 use Rattle.iio_desc.specs.Description.{DeviceHead, heads_of}
 use Rattle.iio_desc.specs.Description as desc_spec
 use Rattle.iio_device.specs.Site.{is_empty}
-use Rattle.iiod_grammar.specs.Command.{Close, Remask}
-use Rattle.iiod_grammar.specs.Stream.{Item, Said, End, items_from}
 use Rattle.iiod_commands.specs.Client.{SeatState, ClientRecord}
 use Rattle.iio_core.specs.Front.{find_device, kind_at}
-use Rattle.iio_history.specs.Who.{Who, Conn, Inner, same}
-use Rattle.iio_history.specs.Registry.{Setup, Member, Device, is_member, has_ended}
+use Rattle.iio_history.specs.Who.{Conn, same}
+use Rattle.iio_history.specs.Registry.{Setup, Member, Device, is_member}
 use Rattle.iio_history.specs.Told.{Station, Told, device_of, registry_of}
-use Rattle.iio_history.specs.Transcript.{Step, Feed, Drop, begun_by}
-use Rattle.iio_history.specs.Bench.{Every, IsBench, IsClientOf, IsStation, IsThere, front_of, is_in, kind_of_head, kind_of_station, names_of, seat_at, seat_in}
-use Rattle.iio_worlds.specs.Stance.{Opens, by_number, client_there, clients_but, has_input, has_others, has_seat, is_so_at, item_meets, items_meet, may_part, none_seated, none_so, one_has, one_seated, opens_by, opens_of, own_has, stance_of, step_meets, step_meets_by}
+use Rattle.iio_history.specs.Transcript.{Step}
+use Rattle.iio_history.specs.Bench.{Every, IsBench, IsClientOf, front_of, is_in, kind_of_head, kind_of_station, names_of, seat_at, seat_in}
+use Rattle.iio_worlds.specs.Stance.{Opens, by_number, client_there, clients_but, has_input, has_others, has_seat, is_so_at, none_seated, none_so, one_has, one_seated, opens_by, opens_of, own_has, stance_of, step_meets, step_meets_by}
 use Rattle.iio_worlds.proofs.Alone.{get_map}
 use Rattle.iio_worlds.proofs.StartLaws.{held_in}
-use Rattle.iio_worlds.proofs.StanceLaws.{AllThere, others_are_there, say_same, seats_tell, seats_there, station_there}
+use Rattle.iio_worlds.proofs.StanceLaws.{AllThere, others_are_there, seats_tell, seats_there, station_there}
 
 -- ---- the same is asked
-
-part_same : (x y : Opens) (item : Item) → ((device : List ℕ) → x.others device ≡ y.others device) → x.none ≡ y.none → may_part x item ≡ may_part y item
-part_same x y (Said (Ok (Close device))) others none = ap not (others device)
-part_same x y (Said (Ok (Remask device text))) others none = ap not (others device)
-part_same x y (End refusal) others none = none
-part_same x y item others none = refl
 
 pub record AsksSame (x y : Opens) : Type 0 where
   pub own : (device : List ℕ) → x.own device ≡ y.own device
   pub others : (device : List ℕ) → x.others device ≡ y.others device
   pub none : x.none ≡ y.none
 
-item_same : (x y : Opens) (mine : Bool) (item : Item) → AsksSame x y → item_meets x mine item ≡ item_meets y mine item
-item_same x y true item same = part_same x y item same.others same.none
-item_same x y false item same = say_same x.own y.own item same.own
-
-items_same : (x y : Opens) (mine : Bool) (items : List Item) → AsksSame x y → items_meet x mine items ≡ items_meet y mine items
-items_same x y mine [] same = refl
-items_same x y mine (item ∷ items) same =
-    ap (λ b. b && items_meet x mine items) (item_same x y mine item same) ∙ ap (λ b. item_meets y mine item && b) (items_same x y mine items same)
-
 step_same : (x y : Opens) (a : List ℕ) (m : Told) (t : Step) → AsksSame x y → step_meets_by x a m t ≡ step_meets_by y a m t
-step_same x y a m (Feed name bytes) same =
-    ap (λ b. has_ended name (registry_of m).users || b) (items_same x y (bytes_eq name a) (items_from (begun_by name m.lines) bytes) same)
-step_same x y a m (Drop name) same = ap (λ b. not (bytes_eq name a) || b) same.none
-step_same x y a m t same = refl
+step_same x y a m t same = search rules
 
 -- ---- at a device
 
@@ -66,23 +45,11 @@ client_is : (m : Told) (a : List ℕ) (clients : List ℕ → ClientRecord) (ns 
     → is_in ns a ≡ true
     → IsClientOf m a (clients a)
 client_is m a clients [] are is = cc
-client_is m a clients (n ∷ ns) are is = by_test (bytes_eq n a) refl is (client_is m a clients ns are.1)
-  where
-    by_test : (b : Bool) → bytes_eq n a ≡ b → (b || is_in ns a) ≡ true → (is_in ns a ≡ true → IsClientOf m a (clients a)) → IsClientOf m a (clients a)
-    by_test true here h rest = subst (λ name. IsClientOf m name (clients name)) ((bytes_eq-Decides n a).0 here) are.0
-    by_test false here h rest = rest h
+client_is m a clients (n ∷ ns) are is = search (rules, is_in, client_is m a clients ns are.1)
 
 not_there : (a : List ℕ) (ns : List (List ℕ)) (ms : List Member) → AllThere ns ms → is_in ns a ≡ false → is_member (Conn a) ms ≡ false
 not_there a ns [] are absent = refl
-not_there a ns (m ∷ ms) are absent = or_from (same (Conn a) m.who) (is_member (Conn a) ms) (by_who m.who are.0) (not_there a ns ms are.1 absent)
-  where
-    by_who : (w : Who) → IsThere ns w → same (Conn a) w ≡ false
-    by_who (Inner device) there = refl
-    by_who (Conn name) there = by_test (bytes_eq a name) refl
-      where
-        by_test : (b : Bool) → bytes_eq a name ≡ b → bytes_eq a name ≡ false
-        by_test false h = h
-        by_test true h = absurd (true≢false (sym there ∙ ap (is_in ns) (sym ((bytes_eq-Decides a name).0 h)) ∙ absent))
+not_there a ns (m ∷ ms) are absent = search (rules, or_from, same, is_in, not_there a ns ms are.1 absent)
 
 -- the connection's own
 own_has_is : (s : Setup) (m : Told) (a : List ℕ) (clients : List ℕ → ClientRecord) (k : ℕ) (st : Station) → IsBench s m
@@ -92,9 +59,7 @@ own_has_is s m a clients k st bench are here = by_test (is_in (names_of m) a) re
   where
     by_test : (b : Bool) → is_in (names_of m) a ≡ b → is_member (Conn a) (device_of st).members ≡ own_has (cond b (Some (clients a)) None) k
     by_test true is = seats_tell m a (clients a) k st (client_is m a clients (names_of m) are is) here
-    by_test false is =
-        not_there a (names_of m) (device_of st).members
-        (seats_there (names_of m) st st.seats (station_there (IsStation (names_of m)) m.stations k st bench.stations here).seats) is
+    by_test false is = search (rules, not_there, seats_there, station_there)
 
 own_has_none : (m : Told) (a : List ℕ) (clients : List ℕ → ClientRecord) (k : ℕ) → Every (λ name. IsClientOf m name (clients name)) (names_of m)
     → slice_get m.stations k ≡ None → own_has (client_there clients a (names_of m)) k ≡ false
@@ -105,8 +70,7 @@ own_has_none m a clients k are none = by_test (is_in (names_of m) a) refl
     by_test false is = refl
 
 kind_there : (kind : Kind) (o : Option DeviceHead) → Some kind ≡ option_map kind_of_head o → kind ≡ option_map_or (λ (d : DeviceHead). d.kind) o Input
-kind_there kind None is = cc
-kind_there kind (Some d) is = cc
+kind_there kind o is = search rules
 
 kind_is : (s : Setup) (m : Told) (k : ℕ) (st : Station) → IsBench s m → slice_get m.stations k ≡ Some st → st.kind ≡ kind_at (front_of s) k
 unfolding kind_at
@@ -116,44 +80,24 @@ kind_is s m k st bench here =
     ∙ get_map kind_of_head (heads_of s.desc) k)
 
 false_right : (b : Bool) → (b && false) ≡ false
-false_right true = refl
-false_right false = refl
+false_right b = search rules
 
 own_at : (s : Setup) (m : Told) (a : List ℕ) (clients : List ℕ → ClientRecord) (k : ℕ) → IsBench s m
     → Every (λ name. IsClientOf m name (clients name)) (names_of m)
     → is_so_at (map (has_input a) (registry_of m).devices) k ≡ (is_input (kind_at (front_of s) k) && own_has (client_there clients a (names_of m)) k)
-own_at s m a clients k bench are = so_is (has_input a) m k ∙ by_station (slice_get m.stations k) refl
-  where
-    by_station : (o : Option Station) → slice_get m.stations k ≡ o
-        → held_in (option_map (has_input a) (option_map device_of o)) ≡ (is_input (kind_at (front_of s) k) && own_has (client_there clients a (names_of m)) k)
-    by_station None is =
-        sym (false_right (is_input (kind_at (front_of s) k))) ∙ ap (λ b. is_input (kind_at (front_of s) k) && b) (sym (own_has_none m a clients k are is))
-    by_station (Some st) is =
-        ap (λ kind. is_input kind && is_member (Conn a) (device_of st).members) (kind_is s m k st bench is)
-        ∙ ap (λ b. is_input (kind_at (front_of s) k) && b) (own_has_is s m a clients k st bench are is)
+own_at s m a clients k bench are = search (rules, so_is, false_right, own_has_none, kind_is, own_has_is)
 
 -- the others'
 one_seated_is : (m : Told) (a : List ℕ) (clients : List ℕ → ClientRecord) (k : ℕ) (st : Station) (ns : List (List ℕ))
     → Every (λ name. IsClientOf m name (clients name)) ns → slice_get m.stations k ≡ Some st
     → one_has a ns (device_of st) ≡ one_seated (clients_but clients a ns) k
 one_seated_is m a clients k st [] are here = refl
-one_seated_is m a clients k st (n ∷ ns) are here = by_test (bytes_eq n a) (one_seated_is m a clients k st ns are.1 here)
-  where
-    by_test : (b : Bool) → one_has a ns (device_of st) ≡ one_seated (clients_but clients a ns) k
-        → ((not b && is_member (Conn n) (device_of st).members) || one_has a ns (device_of st))
-        ≡ one_seated (cond b (clients_but clients a ns) (clients n ∷ clients_but clients a ns)) k
-    by_test true rest = rest
-    by_test false rest = ap (λ b. b || one_has a ns (device_of st)) (seats_tell m n (clients n) k st are.0 here) ∙ ap (λ b. has_seat k (clients n) || b) rest
+one_seated_is m a clients k st (n ∷ ns) are here = search (rules, seats_tell, has_seat, one_seated_is m a clients k st ns are.1 here)
 
 none_seated_at : (m : Told) (a : List ℕ) (clients : List ℕ → ClientRecord) (k : ℕ) (ns : List (List ℕ)) → Every (λ name. IsClientOf m name (clients name)) ns
     → slice_get m.stations k ≡ None → one_seated (clients_but clients a ns) k ≡ false
 none_seated_at m a clients k [] are none = refl
-none_seated_at m a clients k (n ∷ ns) are none = by_test (bytes_eq n a) (none_seated_at m a clients k ns are.1 none)
-  where
-    by_test : (b : Bool) → one_seated (clients_but clients a ns) k ≡ false
-        → one_seated (cond b (clients_but clients a ns) (clients n ∷ clients_but clients a ns)) k ≡ false
-    by_test true rest = rest
-    by_test false rest = or_from (has_seat k (clients n)) (one_seated (clients_but clients a ns) k) (no_seat m n (clients n) k are.0 none) rest
+none_seated_at m a clients k (n ∷ ns) are none = search (rules, or_from, has_seat, no_seat, none_seated_at m a clients k ns are.1 none)
 
 others_at : (s : Setup) (m : Told) (a : List ℕ) (clients : List ℕ → ClientRecord) (k : ℕ) → IsBench s m
     → Every (λ name. IsClientOf m name (clients name)) (names_of m)
@@ -168,9 +112,7 @@ others_at s m a clients k bench are = so_is (has_others a) m k ∙ by_station (s
 -- ---- at none
 
 either_way : (b c : Bool) → (b ≡ true → c ≡ true) → (c ≡ true → b ≡ true) → b ≡ c
-either_way true c forth back = sym (forth refl)
-either_way false true forth back = back refl
-either_way false false forth back = refl
+either_way b c forth back = search rules
 
 none_then : (bs : List Bool) → none_so bs ≡ true → (k : ℕ) → is_so_at bs k ≡ false
 none_then [] none k = refl
@@ -184,8 +126,7 @@ none_where (true ∷ bs) all = absurd (true≢false (all 0))
 none_where (false ∷ bs) all = none_where bs (λ k. all (suc k))
 
 unseated : (seats : List SeatState) → is_empty seats ≡ true → (k : ℕ) → is_some (seat_at k seats) ≡ false
-unseated [] is k = refl
-unseated (x ∷ xs) is k = cc
+unseated seats is k = search rules
 
 seatless : (seats : List SeatState) → ((k : ℕ) → is_some (seat_at k seats) ≡ false) → is_empty seats ≡ true
 seatless [] all = refl
@@ -209,8 +150,7 @@ none_seated_where (client ∷ clients) all =
 -- ---- a step
 
 by_same : (o : Option ℕ) (f g : ℕ → Bool) → ((k : ℕ) → f k ≡ g k) → by_number o f ≡ by_number o g
-by_same None f g same = refl
-by_same (Some k) f g same = same k
+by_same o f g same = search rules
 
 asks_same : (s : Setup) (m : Told) (a : List ℕ) (clients : List ℕ → ClientRecord) → IsBench s m → Every (λ name. IsClientOf m name (clients name)) (names_of m)
     → AsksSame (opens_of s.desc (stance_of a (registry_of m)))
@@ -233,7 +173,4 @@ asks_same s m a clients bench are = record {
 pub clients_decide : (s : Setup) (m : Told) (a : List ℕ) (clients : List ℕ → ClientRecord) (t : Step) → IsBench s m
     → Every (λ name. IsClientOf m name (clients name)) (names_of m)
     → step_meets s a m t ≡ step_meets_by (opens_by (front_of s) (client_there clients a (names_of m)) (clients_but clients a (names_of m))) a m t
-clients_decide s m a clients t bench are =
-    step_same (opens_of s.desc (stance_of a (registry_of m))) (opens_by (front_of s) (client_there clients a (names_of m)) (clients_but clients a (names_of m)))
-    a m t
-    (asks_same s m a clients bench are)
+clients_decide s m a clients t bench are = grind (arith, common_steps, step_same, opens_by, asks_same)

@@ -1,5 +1,5 @@
 -- An input without the lines of other connections' steps has the same steps without those.
-use Rattle.std.proofs.Common.{◌≡◌, ◌⊎◌, inl, inr, ℕ, ◌+◌, ◌||◌, nat_lt, not, Bool, true, false, List, [], ◌∷◌, ◌++◌, Option, Some, None, Result, Ok, Err, cond, refl, sym, ap, ◌∙◌, subst}
+use Rattle.std.proofs.Common.{◌≡◌, ◌⊎◌, inl, ℕ, ◌+◌, not, Bool, true, false, List, [], ◌∷◌, ◌++◌, Option, Some, None, Result, Ok, Err, cond, refl, sym, ap, ◌∙◌, subst, rules}
 use Rattle.std.specs.Str.{bytes_eq}
 use Rattle.std.proofs.lemmas.Slice.Eq.{bytes_eq-Decides}
 use Rattle.iio_base.specs.Refusals.{ensure, ◌>>=◌, ◌>>◌}
@@ -22,17 +22,7 @@ OwnNames a names step = (keeps_names names step ≡ true) × AreOwn a (names_aft
 
 own_fed : (a name bytes : List ℕ) (names : List (List ℕ)) → name ≡ a → AreOwn a names → OwnNames a names (Some (Feed name bytes))
 unfolding AreOwn OwnNames
-own_fed a name bytes names is (inl none) =
-    subst (λ ns. (keeps_names ns (Some (Feed name bytes)) ≡ true) × AreOwn a (names_after ns (Some (Feed name bytes)))) (sym none)
-    (refl, inr (ap (λ n. n ∷ []) is))
-own_fed a name bytes names is (inr one) =
-    subst (λ ns. (keeps_names ns (Some (Feed name bytes)) ≡ true) × AreOwn a (names_after ns (Some (Feed name bytes)))) (sym one)
-    (by_test (bytes_eq a name) ((bytes_eq-Decides a name).1 (sym is)))
-  where
-    by_test : (b : Bool) → b ≡ true
-        → (((b || false) || nat_lt 1 64) ≡ true) × AreOwn a (cond (b || false) (a ∷ []) (name ∷ a ∷ []))
-    by_test true h = (refl, inr refl)
-    by_test false h = cc
+own_fed a name bytes names is h1 = search rules
 
 own_names : (a : List ℕ) (names : List (List ℕ)) (step : Option Step) → says_others a (Ok step) ≡ false → AreOwn a names → OwnNames a names step
 unfolding OwnNames
@@ -40,8 +30,7 @@ own_names a names None is are = (refl, are)
 own_names a names (Some (Feed name bytes)) is are = own_fed a name bytes names ((bytes_eq-Decides name a).0 (kept (bytes_eq name a) is)) are
   where
     kept : (b : Bool) → not b ≡ false → b ≡ true
-    kept true h = refl
-    kept false h = cc
+    kept b h = search rules
 own_names a names (Some step) is are = (refl, are)
 
 -- ---- a line
@@ -72,26 +61,21 @@ Says desc a lines =
     → IsWithout a (script_from desc Finished names' n' (own_lines desc a lines)) (script_from desc Finished names n lines)
 
 first_ends : (step : Option Step) (script : Script) → (first_step step script).ending ≡ script.ending
-first_ends None script = refl
-first_ends (Some step) script = refl
+first_ends step script = search rules
 
 others_first : (a : List ℕ) (step : Option Step) (own whole : Script) → says_others a (Ok step) ≡ true → IsWithout a own whole
     → IsWithout a own (first_step step whole)
-others_first a None own whole is are = cc
-others_first a (Some step) own whole is are = (are.0, are.1 ∙ ap (λ b. cond b (without_others a whole.steps) (step ∷ without_others a whole.steps)) (sym is))
+others_first a step own whole is are = search rules
 
 own_first : (a : List ℕ) (step : Option Step) (own whole : Script) → says_others a (Ok step) ≡ false → IsWithout a own whole
     → IsWithout a (first_step step own) (first_step step whole)
-own_first a None own whole is are = are
-own_first a (Some step) own whole is are =
-    (are.0, ap (λ ts. step ∷ ts) are.1 ∙ ap (λ b. cond b (without_others a whole.steps) (step ∷ without_others a whole.steps)) (sym is))
+own_first a step own whole is are = search rules
 
 -- a line that is kept gives its step
 kept_line : (desc : Description) (a : List ℕ) (names : List (List ℕ)) (n : ℕ) (line : List ℕ) (lines : List (List ℕ)) (step : Option Step)
     → step_of desc line ≡ Ok step → keeps_names names step ≡ true
     → script_from desc Finished names n (line ∷ lines) ≡ first_step step (script_from desc Finished (names_after names step) (n + 1) lines)
-kept_line desc a names n line lines step said keeps =
-    ap (λ o. script_by desc names n lines (after_by names o)) said ∙ ap (λ b. script_by desc names n lines (checked step b)) keeps
+kept_line desc a names n line lines step said keeps = cc
 
 by_others : (desc : Description) (a : List ℕ) (line : List ℕ) (lines : List (List ℕ)) (names names' : List (List ℕ)) (n n' : ℕ) (step : Option Step) (b : Bool)
     → step_of desc line ≡ Ok step → says_others a (Ok step) ≡ b
@@ -126,8 +110,7 @@ by_said : (desc : Description) (a : List ℕ) (line : List ℕ) (lines : List (L
     → IsWithout a (script_from desc Finished names' n' (cond (says_others a o) (own_lines desc a lines) (line ∷ own_lines desc a lines)))
     (script_by desc names n lines (after_by names o))
 by_said desc a line lines names names' n n' (Err why) said are ends next = cc
-by_said desc a line lines names names' n n' (Ok step) said are ends next =
-    by_keeping desc a line lines names names' n n' step (keeps_names names step) said are ends next
+by_said desc a line lines names names' n n' (Ok step) said are ends next = search (rules, by_keeping)
 
 own_says : (desc : Description) (a : List ℕ) (lines : List (List ℕ)) → Says desc a lines
 own_says desc a [] names names' n n' are ends = (refl, refl)

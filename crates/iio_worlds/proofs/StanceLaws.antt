@@ -1,22 +1,22 @@
 -- Which devices the connection has open, and which another has, before a step decides whether the step meets the rules.
-use Rattle.std.proofs.Common.{◌≡◌, ℕ, zero, suc, ◌+◌, ◌<◌, ◌==◌, ◌&&◌, ◌||◌, not, Bool, true, false, List, [], ◌∷◌, map, Option, Some, None, Ok, option_map, is_some, slice_get, cond, refl, sym, ap, ◌∙◌, subst, arith}
+use Rattle.std.proofs.Common.{◌≡◌, ℕ, zero, suc, ◌+◌, ◌<◌, ◌==◌, ◌&&◌, ◌||◌, not, Bool, true, false, List, [], ◌∷◌, map, Option, Some, None, Ok, option_map, is_some, slice_get, cond, refl, sym, ap, ◌∙◌, subst, arith, rules}
+use Rattle.std.proofs.lemmas.Grind.{common_steps}
 use Rattle.std.specs.Str.{bytes_eq}
-use Rattle.std.proofs.lemmas.Slice.Eq.{bytes_eq-Decides}
-use Rattle.std.proofs.lemmas.Bool.{and_from, or_left, or_right, not_from_false, true≢false}
+use Rattle.std.proofs.lemmas.Bool.{and_from, or_left, or_right, not_from_false}
 use Rattle.std.proofs.lemmas.Bool.Decides.{nat_tests}
 use Rattle.iio_trigger.specs.Trigger.{Handed}
 use Rattle.iio_desc.specs.Description.{find_device}
-use Rattle.iiod_grammar.specs.Command.{Open, Close, Read, ReadBuf, GetTrig, SetBuffers, Remask}
+use Rattle.iiod_grammar.specs.Command.{Close, Remask}
 use Rattle.iiod_grammar.specs.Stream.{Item, Said, End, items_from}
 use Rattle.iiod_commands.specs.Client.{ClientRecord}
 use Rattle.iio_history.specs.Who.{Who, Conn, Inner, same}
 use Rattle.iio_history.specs.Event.{Event, Arrived, Heard, Dropped, Polled, Handled, Sensed, Clock, Unplugged}
 use Rattle.iio_history.specs.Registry.{Setup, Member, Device, Registry, is_at, is_member, has_ended}
-use Rattle.iio_history.specs.Fold.{device_after, registry_after}
+use Rattle.iio_history.specs.Fold.{registry_after}
 use Rattle.iio_history.specs.Told.{Seat, Station, Told, device_of, member_of_seat, registry_of, told}
 use Rattle.iio_history.specs.Reply.{seat_of}
 use Rattle.iio_history.specs.Transcript.{Step, Feed, Fire, Poll, Handle, Sense, SetClock, Drop, Unplug, and_then, begun_by, poll_entries, with_step}
-use Rattle.iio_history.specs.Bench.{Every, IsBench, IsClientOf, IsSeat, IsStation, IsThere, seat_state_by, is_in, names_of, seat_in}
+use Rattle.iio_history.specs.Bench.{Every, IsBench, IsClientOf, IsSeat, IsStation, IsThere, is_in, names_of}
 use Rattle.iio_history.proofs.ToldLaws.{registry_is}
 use Rattle.iio_worlds.specs.Bystanders.{mine, has_other, has_open, is_neutral, others_are_neutral, ends_membership, is_unparted, all_from, is_bystander, may_say, only_bystanders, meets_by, all_meet_by}
 use Rattle.iio_worlds.specs.Stance.{Stance, has_input, has_others, stance_of, opens_of, is_so_at, is_so, none_so, may_part, item_meets, items_meet, step_meets, has_seat, one_has}
@@ -41,13 +41,8 @@ at_one zero k f (d ∷ ds) =
     ∙ alone (f d)
   where
     alone : (b : Bool) → (not b && true) ≡ not b
-    alone true = refl
-    alone false = refl
-at_one (suc j) k f (d ∷ ds) =
-    let apart : (suc j + k == k) ≡ false = grind (arith, nat_tests) in
-    let place : suc j + k ≡ j + suc k = omega arith in
-    ap (λ b. not (b && f d) && all_from (λ i d. not (suc j + k == i && f d)) (suc k) ds) apart
-    ∙ ap (λ n. all_from (λ i d. not (n == i && f d)) (suc k) ds) place ∙ at_one j (suc k) f ds
+    alone b = search rules
+at_one (suc j) k f (d ∷ ds) = grind (arith, common_steps, all_from, at_one j (suc k) f ds)
 
 never : (k : ℕ) (p : ℕ → Bool) (f : Device → Bool) (ds : List Device) → ((j : ℕ) → p j ≡ false) → all_from (λ i d. not (p i && f d)) k ds ≡ true
 never k p f [] none = refl
@@ -78,25 +73,16 @@ own_part s a name (End refusal) r is = ap (λ b. all_from (λ k d. not (b && has
 own_part s a name item r is = never 0 (λ i. false) (has_others a) r.devices (λ j. refl)
 
 open_by_stance : (r : Registry) (a : List ℕ) (o : Option ℕ) → open_by r a o ≡ so_by (map (has_input a) r.devices) o
-open_by_stance r a None = refl
-open_by_stance r a (Some k) = open_at_is r a k
+open_by_stance r a o = search (rules, open_at_is)
 
 open_is : (s : Setup) (r : Registry) (a device : List ℕ) → has_open s r a device ≡ is_so s.desc (map (has_input a) r.devices) device
 open_is s r a device = open_by_stance r a (find_device s.desc device)
 
 pub say_same : (f g : List ℕ → Bool) (item : Item) → ((device : List ℕ) → f device ≡ g device) → may_say f item ≡ may_say g item
-say_same f g (Said (Ok (Open device samples text cyclic))) same = same device
-say_same f g (Said (Ok (Close device))) same = same device
-say_same f g (Said (Ok (ReadBuf device bytes))) same = same device
-say_same f g (Said (Ok (Read device place attribute))) same = same device
-say_same f g (Said (Ok (GetTrig device))) same = same device
-say_same f g (Said (Ok (SetBuffers device n))) same = same device
-say_same f g (Said (Ok (Remask device text))) same = same device
-say_same f g item same = refl
+say_same f g item same = search rules
 
 and_true : (b : Bool) → (b && true) ≡ b
-and_true true = refl
-and_true false = refl
+and_true b = search rules
 
 pub stance_decides : (s : Setup) (r : Registry) (a name : List ℕ) (item : Item)
     → meets_by s r a name item ≡ item_meets (opens_of s.desc (stance_of a r)) (bytes_eq name a) item
@@ -113,9 +99,7 @@ stance_decides s r a name item = by_speaker (bytes_eq name a) refl
 items_decided : (s : Setup) (r : Registry) (a name : List ℕ) (items : List Item)
     → all_meet_by s r a name items ≡ items_meet (opens_of s.desc (stance_of a r)) (bytes_eq name a) items
 items_decided s r a name [] = refl
-items_decided s r a name (item ∷ items) =
-    ap (λ b. b && all_meet_by s r a name items) (stance_decides s r a name item)
-    ∙ ap (λ b. item_meets (opens_of s.desc (stance_of a r)) (bytes_eq name a) item && b) (items_decided s r a name items)
+items_decided s r a name (item ∷ items) = simp (stance_decides, items_decided s r a name items)
 
 -- ---- events that meet the rules whatever is open
 
@@ -130,9 +114,7 @@ AllPlain s a (e ∷ es) = IsPlain s a e × AllPlain s a es
 unparted : (s : Setup) (a : List ℕ) (e : Event) (k : ℕ) (ds : List Device) → ((j : ℕ) → ends_membership s a e j ≡ false)
     → all_from (is_unparted s a e) k ds ≡ true
 unparted s a e k [] none = refl
-unparted s a e k (d ∷ ds) none =
-    ap (λ b. not (b && is_member (Conn a) d.members && has_other (Conn a) d.members) && all_from (is_unparted s a e) (suc k) ds) (none k)
-    ∙ unparted s a e (suc k) ds none
+unparted s a e k (d ∷ ds) none = search (rules, all_from, unparted s a e (suc k) ds none)
 
 plain_meets : (s : Setup) (r : Registry) (a : List ℕ) (e : Event) → IsPlain s a e → is_bystander s r a e ≡ true
 plain_meets s r a e is = ap (λ b. b && all_from (is_unparted s a e) 0 r.devices) (is.neutral r) ∙ unparted s a e 0 r.devices is.parts
@@ -155,11 +137,7 @@ handled_plain s a trigger (e ∷ es) = (record { neutral = λ r. refl; parts = �
 -- an arrival makes nobody join or leave
 stance_arrived : (s : Setup) (a : List ℕ) (h : List Event) (name bytes : List ℕ)
     → stance_of a (registry_after s (Arrived name bytes ∷ h)) ≡ stance_of a (registry_after s h)
-stance_arrived s a h name bytes =
-    ap (λ bs. record { own = bs; others = map (has_others a) (registry_after s (Arrived name bytes ∷ h)).devices })
-    (each_kept (has_input a) (device_after s (registry_after s h) (Arrived name bytes)) 0 (registry_after s h).devices (λ j d. refl))
-    ∙ ap (λ bs. record { own = map (has_input a) (registry_after s h).devices; others = bs })
-    (each_kept (has_others a) (device_after s (registry_after s h) (Arrived name bytes)) 0 (registry_after s h).devices (λ j d. refl))
+stance_arrived s a h name bytes = simp (each_kept)
 
 feed_decides : (s : Setup) (a : List ℕ) (h : List Event) (name bytes : List ℕ) → only_bystanders s a h ≡ true
     → only_bystanders s a (with_step s h (Feed name bytes)) ≡ step_meets s a (told s h) (Feed name bytes)
@@ -214,25 +192,15 @@ step_decides s a h (Unplug device) only = plain_next s a h (Unplugged device) (r
 -- ---- by the clients
 
 is_some_map : {A B : Type 0} (f : A → B) (o : Option A) → is_some (option_map f o) ≡ is_some o
-is_some_map f None = refl
-is_some_map f (Some x) = refl
+is_some_map f o = search rules
 
 seated : (w : Who) (xs : List Seat) → is_member w (map member_of_seat xs) ≡ is_some (seat_of w xs)
 seated w [] = refl
-seated w (x ∷ xs) = by_test (same w x.member.who) (seated w xs)
-  where
-    by_test : (b : Bool) → is_member w (map member_of_seat xs) ≡ is_some (seat_of w xs)
-        → (b || is_member w (map member_of_seat xs)) ≡ is_some (cond b (Some x) (seat_of w xs))
-    by_test true rest = refl
-    by_test false rest = rest
+seated w (x ∷ xs) = search (rules, same, seated w xs)
 
 pub seats_tell : (m : Told) (name : List ℕ) (client : ClientRecord) (k : ℕ) (st : Station) → IsClientOf m name client → slice_get m.stations k ≡ Some st
     → is_member (Conn name) (device_of st).members ≡ has_seat k client
-seats_tell m name client k st is here =
-    seated (Conn name) st.seats
-    ∙ sym (is_some_map (seat_state_by k) (seat_of (Conn name) st.seats))
-    ∙ ap (λ o. is_some (seat_in k (Conn name) o)) (sym here)
-    ∙ ap is_some (sym (is.seats k))
+seats_tell m name client k st is here = search (rules, seated, is_some_map)
 
 -- each member is a connection that is there, or nobody's
 abbrev pub AllThere : List (List ℕ) → List Member → Type 0
@@ -255,33 +223,11 @@ one_is a (n ∷ ns) name = (not (bytes_eq n a) && bytes_eq n name) || one_is a n
 
 one_among : (a name : List ℕ) (ns : List (List ℕ)) → bytes_eq a name ≡ false → is_in ns name ≡ true → one_is a ns name ≡ true
 one_among a name [] apart is = cc
-one_among a name (n ∷ ns) apart is = by_test (bytes_eq n name) refl is (one_among a name ns apart)
-  where
-    other : (b : Bool) → bytes_eq n a ≡ b → bytes_eq n name ≡ true → bytes_eq n a ≡ false
-    other false h same = h
-    other true h same =
-        let one : n ≡ a = (bytes_eq-Decides n a).0 h in
-        let two : n ≡ name = (bytes_eq-Decides n name).0 same in
-        absurd (true≢false (sym ((bytes_eq-Decides a name).1 (sym one ∙ two)) ∙ apart))
-
-    by_test : (b : Bool) → bytes_eq n name ≡ b → (b || is_in ns name) ≡ true → (is_in ns name ≡ true → one_is a ns name ≡ true)
-        → ((not (bytes_eq n a) && b) || one_is a ns name) ≡ true
-    by_test true same is rest =
-        or_left (not (bytes_eq n a) && true) (one_is a ns name)
-        (and_from (not (bytes_eq n a)) true (not_from_false (bytes_eq n a) (other (bytes_eq n a) refl same)) refl)
-    by_test false same is rest = or_right (not (bytes_eq n a) && false) (one_is a ns name) (rest is)
+one_among a name (n ∷ ns) apart is = search (rules, same, is_in, or_left, and_from, not_from_false, or_right, one_among a name ns apart)
 
 not_one : (a name : List ℕ) (ns : List (List ℕ)) → bytes_eq a name ≡ true → one_is a ns name ≡ false
 not_one a name [] is = refl
-not_one a name (n ∷ ns) is = by_test (bytes_eq n a) (bytes_eq n name) refl refl (not_one a name ns is)
-  where
-    by_test : (b c : Bool) → bytes_eq n a ≡ b → bytes_eq n name ≡ c → one_is a ns name ≡ false → ((not b && c) || one_is a ns name) ≡ false
-    by_test true c first second rest = rest
-    by_test false false first second rest = rest
-    by_test false true first second rest =
-        let one : n ≡ name = (bytes_eq-Decides n name).0 second in
-        let two : a ≡ name = (bytes_eq-Decides a name).0 is in
-        absurd (true≢false (sym ((bytes_eq-Decides n a).1 (one ∙ sym two)) ∙ first))
+not_one a name (n ∷ ns) is = search (rules, not_one a name ns is)
 
 -- member by member
 abbrev one_of : List ℕ → List (List ℕ) → List Member → Bool
@@ -293,51 +239,22 @@ one_at a ns (Conn name) = one_is a ns name
 one_at a ns (Inner device) = false
 
 shuffled : (p q u v w : Bool) → ((p && (q || u)) || (v || w)) ≡ (((p && q) || v) || ((p && u) || w))
-shuffled true true u v w = refl
-shuffled true false true true w = refl
-shuffled true false true false w = refl
-shuffled true false false v w = refl
-shuffled false q u v w = refl
+shuffled p q u v w = search rules
 
 no_others : (a : List ℕ) (ns : List (List ℕ)) → one_of a ns [] ≡ false
 no_others a [] = refl
-no_others a (n ∷ ns) = by_test (not (bytes_eq n a)) (no_others a ns)
-  where
-    by_test : (b : Bool) → one_of a ns [] ≡ false → ((b && false) || one_of a ns []) ≡ false
-    by_test true rest = rest
-    by_test false rest = rest
+no_others a (n ∷ ns) = search (rules, no_others a ns)
 
 one_first : (a : List ℕ) (ns : List (List ℕ)) (m : Member) (ms : List Member) → one_of a ns (m ∷ ms) ≡ (one_at a ns m.who || one_of a ns ms)
-one_first a [] m ms = by_who m.who
-  where
-    by_who : (w : Who) → false ≡ (one_at a [] w || false)
-    by_who (Conn name) = refl
-    by_who (Inner device) = refl
-one_first a (n ∷ ns) m ms =
-    ap (λ b. (not (bytes_eq n a) && (same (Conn n) m.who || is_member (Conn n) ms)) || b) (one_first a ns m ms)
-    ∙ shuffled (not (bytes_eq n a)) (same (Conn n) m.who) (is_member (Conn n) ms) (one_at a ns m.who) (one_of a ns ms)
-    ∙ ap (λ b. b || one_of a (n ∷ ns) ms) (by_who m.who)
-  where
-    by_who : (w : Who) → ((not (bytes_eq n a) && same (Conn n) w) || one_at a ns w) ≡ one_at a (n ∷ ns) w
-    by_who (Conn name) = refl
-    by_who (Inner device) = by_test (not (bytes_eq n a))
-      where
-        by_test : (b : Bool) → ((b && false) || false) ≡ false
-        by_test true = refl
-        by_test false = refl
+one_first a [] m ms = search rules
+one_first a (n ∷ ns) m ms = search (rules, same, shuffled, one_first a ns m ms)
 
 one_member : (a : List ℕ) (ns : List (List ℕ)) (w : Who) → IsThere ns w → not (mine (Conn a) w) ≡ one_at a ns w
-one_member a ns (Inner device) is = refl
-one_member a ns (Conn name) is = by_test (bytes_eq a name) refl
-  where
-    by_test : (b : Bool) → bytes_eq a name ≡ b → not b ≡ one_is a ns name
-    by_test true same = sym (not_one a name ns same)
-    by_test false same = sym (one_among a name ns same is)
+one_member a ns w is = search (rules, same, not_one, one_among)
 
 others_are : (a : List ℕ) (ns : List (List ℕ)) (ms : List Member) → AllThere ns ms → has_other (Conn a) ms ≡ one_of a ns ms
 others_are a ns [] are = sym (no_others a ns)
-others_are a ns (m ∷ ms) are =
-    ap (λ b. b || has_other (Conn a) ms) (one_member a ns m.who are.0) ∙ ap (λ b. one_at a ns m.who || b) (others_are a ns ms are.1) ∙ sym (one_first a ns m ms)
+others_are a ns (m ∷ ms) are = search (rules, one_member, one_first, others_are a ns ms are.1)
 
 one_of_is : (a : List ℕ) (ns : List (List ℕ)) (d : Device) → one_of a ns d.members ≡ one_has a ns d
 one_of_is a [] d = refl

@@ -1,23 +1,24 @@
 -- What was open when a feed began decides whether its items meet the rules.
-use Rattle.std.proofs.Common.{◌≡◌, ℕ, suc, ◌&&◌, ◌||◌, not, Bool, true, false, List, [], ◌∷◌, ◌++◌, map, Option, Some, None, Result, Ok, Err, option_map, slice_get, cond, refl, sym, ap, ◌∙◌, subst, is_ok, ◌==◌}
+use Rattle.std.proofs.Common.{◌≡◌, ℕ, suc, ◌&&◌, ◌||◌, not, Bool, true, false, List, [], ◌∷◌, ◌++◌, map, Option, Some, None, Result, Ok, option_map, slice_get, cond, refl, sym, ap, ◌∙◌, subst, is_ok, ◌==◌, rules, arith}
+use Rattle.std.proofs.lemmas.Grind.{common_steps}
 use Rattle.std.specs.Str.{bytes_eq}
 use Rattle.std.proofs.lemmas.Slice.Eq.{bytes_eq-Decides}
 use Rattle.std.proofs.lemmas.Bool.{false_from_ne_true, true≢false}
 use Rattle.iio_base.specs.Refusals.{unless_refused}
 use Rattle.iio_text.specs.declared.errors.Errno.{Errno}
 use Rattle.iio_desc.specs.Description.{find_device}
-use Rattle.iiod_grammar.specs.Command.{Open, Close, Read, ReadBuf, GetTrig, SetTrig, SetBuffers, Remask, EvOpen, EvRead, EvClose}
+use Rattle.iiod_grammar.specs.Command.{Open, Close, Read, ReadBuf, SetTrig, Remask, EvOpen, EvRead, EvClose}
 use Rattle.iiod_grammar.specs.Stream.{Item, Said, Written, Streamed, End}
 use Rattle.iio_core.specs.Lists.{map_from}
 use Rattle.iio_history.specs.Who.{Who, Conn, Inner, same, is_among}
 use Rattle.iio_history.specs.Event.{Event, Arrived, Heard, Dropped}
-use Rattle.iio_history.specs.Registry.{Setup, Member, Device, Registry, outline_of, buffers_of, is_left_empty, is_member, is_named, without_members}
-use Rattle.iio_history.specs.Opening.{member_asked, open_answer, remask_answer, trigger_answer, write_answer}
-use Rattle.iio_history.specs.Act.{Act, Nothing, Writing, inner_member, inner_joins, inner_joining, inner_left, inners_left, inner_left_at, leaving, open_act, close_act, end_act, Joining, Remasking, Leaving, Ending, Reading, Asking, Retriggering, Holding, Draining, Releasing, only, accepted, asking, found, write_found, setting, item_act, act_of}
+use Rattle.iio_history.specs.Registry.{Setup, Member, Device, Registry, buffers_of, is_member, is_named, without_members}
+use Rattle.iio_history.specs.Opening.{member_asked, open_answer}
+use Rattle.iio_history.specs.Act.{Act, Nothing, inner_member, inner_joins, inner_joining, inners_left, open_act, close_act, end_act, Joining, Leaving, Ending, Reading, Asking, Holding, Draining, Releasing, only, accepted, asking, found, item_act, act_of}
 use Rattle.iio_history.specs.Fold.{members_after, device_after, registry_after, registry_next}
 use Rattle.iio_history.specs.Transcript.{and_then}
-use Rattle.iio_history.proofs.WhoLaws.{same_self, same_is, same_sym}
-use Rattle.iio_worlds.specs.Bystanders.{mine, has_open_at, has_open, is_neutral, others_are_neutral, ends_membership, has_other, is_unparted, all_from, is_bystander, only_bystanders, meets_by, all_meet_by}
+use Rattle.iio_history.proofs.WhoLaws.{same_is, same_sym}
+use Rattle.iio_worlds.specs.Bystanders.{mine, has_open_at, has_open, is_neutral, ends_membership, has_other, is_unparted, all_from, is_bystander, only_bystanders, meets_by, all_meet_by}
 use Rattle.iio_worlds.proofs.Alone.{get_map, Led}
 use Rattle.iio_worlds.proofs.OwnLaws.{member_left, member_masked, other_joined, other_masked}
 use Rattle.iio_desc.specs.Kind.{is_input, is_output, is_over}
@@ -36,17 +37,11 @@ speaks a e = true
 
 own_by : (a : List ℕ) (e : Event) → speaks a e ≡ true → IsOwn a e
 unfolding speaks
-own_by a (Arrived name bytes) is = (bytes_eq-Decides name a).0 is
-own_by a (Heard name item) is = (bytes_eq-Decides name a).0 is
-own_by a (Dropped name) is = (bytes_eq-Decides name a).0 is
-own_by a e is = tt
+own_by a e is = search rules
 
 foreign_by : (a : List ℕ) (e : Event) → speaks a e ≡ false → IsForeign a e
 unfolding speaks
-foreign_by a (Arrived name bytes) is = is
-foreign_by a (Heard name item) is = is
-foreign_by a (Dropped name) is = is
-foreign_by a e is = absurd (true≢false is)
+foreign_by a e is = search rules
 
 pub quiet_all : (s : Setup) (a : List ℕ) (h : List Event) → OnlyBystanders s a h → IsQuiet a (registry_after s h)
 quiet_all s a [] only = quiet_first s a
@@ -62,9 +57,7 @@ abbrev pub is_met : Setup → List ℕ → Event → ℕ → Device → Bool
 is_met s a e k d = not (ends_membership s a e k && has_other (Conn a) d.members)
 
 met_by : (w : Who) (p m : Bool) (ms : List Member) → Led w ms → is_member w ms ≡ m → not (p && m && has_other w ms) ≡ not (p && has_other w ms)
-met_by w false m ms led is = refl
-met_by w true true ms led is = refl
-met_by w true false ms led is = ap not (sym (led is))
+met_by w p m ms led is = search rules
 
 pub all_met : (s : Setup) (a : List ℕ) (e : Event) (k : ℕ) (ds : List Device) → AllEven (Conn a) ds
     → all_from (is_unparted s a e) k ds ≡ all_from (is_met s a e) k ds
@@ -76,9 +69,7 @@ all_met s a e k (d ∷ ds) even =
 
 by_start : (s : Setup) (a name : List ℕ) (item : Item) (h : List Event) → OnlyBystanders s a h
     → is_bystander s (registry_after s h) a (Heard name item) ≡ meets_by s (registry_after s h) a name item
-by_start s a name item h only =
-    ap (λ b. others_are_neutral s (registry_after s h) a (Heard name item) && b)
-    (all_met s a (Heard name item) 0 (registry_after s h).devices (quiet_all s a h only).0)
+by_start s a name item h only = search (rules, only, all_met, quiet_all)
 
 -- ---- an item makes nobody join or leave but its speaker
 
@@ -98,16 +89,13 @@ IsBy w (Ending gone) = AreHis w gone
 IsBy w act = Unit {0}
 
 by_only : (w : Who) (b : Bool) (act : Act) → IsBy w act → IsBy w (only b act)
-by_only w true act is = is
-by_only w false act is = tt
+by_only w b act is = search rules
 
 by_accepted : {A : Type 0} (w : Who) (act : A → Act) (answer : Result A Errno) → ((x : A) → IsBy w (act x)) → IsBy w (accepted act answer)
-by_accepted w act (Ok x) is = is x
-by_accepted w act (Err e) is = tt
+by_accepted w act answer is = search rules
 
 by_open : (w : Who) (m : Member) (o : Option Errno) → IsHis w m.who → IsBy w (accepted (λ m. Joining m) (unless_refused m o))
-by_open w m None is = is
-by_open w m (Some e) is = tt
+by_open w m o is = search rules
 
 by_opening : (s : Setup) (r : Registry) (name : List ℕ) (samples : ℕ) (text : List ℕ) (cyclic : Bool) (o : Option ℕ) (k : ℕ) (d : Device)
     → IsBy (Conn name) (open_act s r name samples text cyclic o k d)
@@ -126,38 +114,15 @@ by_opening s r name samples text cyclic (Some j) k d = by (j == k)
     by true = by_open (Conn name) (member_asked d (Conn name) (buffers_of r.users name k) samples text cyclic) _ refl
     by false = inner (slice_get r.devices j)
 
-his_left : (w : Who) (b c : Bool) (j : ℕ) → AreHis w (cond b (cond c (Inner j ∷ []) []) [])
-his_left w false c j = tt
-his_left w true false j = tt
-his_left w true true j = (tt, tt)
-
-his_left_at : (w : Who) (b : Bool) (gone : List Who) (j k : ℕ) (o : Option Device)
-    → AreHis w (cond b (elim o [ None ↦ [] | Some x ↦ inner_left gone j k x ]) [])
-his_left_at w true gone j k None = tt
-his_left_at w false gone j k None = tt
-his_left_at w b gone j k (Some x) = his_left w b (is_over x.kind k && is_left_empty gone x.members) j
-
-by_leaving : (w : Who) (gone : List Who) → AreHis w gone → IsBy w (leaving gone)
-by_leaving w [] are = tt
-by_leaving w (x ∷ gone) are = are
-
 by_closing : (r : Registry) (name : List ℕ) (o : Option ℕ) (k : ℕ) (d : Device) → IsBy (Conn name) (close_act r name o k d)
-by_closing r name None k d = tt
-by_closing r name (Some j) k d = by (j == k)
-  where
-    by : (b : Bool) → IsBy (Conn name) (cond b (Leaving (Conn name ∷ [])) (leaving (inner_left_at r (Conn name ∷ []) j k d)))
-    by true = (refl, tt)
-    by false =
-        by_leaving (Conn name) (inner_left_at r (Conn name ∷ []) j k d) (his_left_at (Conn name) (is_input d.kind) (Conn name ∷ []) j k (slice_get r.devices j))
+by_closing r name o k d = search rules
 
 his_joined : (w : Who) (b : Bool) (j : ℕ) (more : List Who) → AreHis w more → AreHis w (cond b (Inner j ∷ []) [] ++ more)
-his_joined w true j more are = (tt, are)
-his_joined w false j more are = are
+his_joined w b j more are = search rules
 
 his_lefts : (w : Who) (gone : List Who) (k j : ℕ) (ds : List Device) → AreHis w (inners_left gone k j ds)
 his_lefts w gone k j [] = tt
-his_lefts w gone k j (d ∷ ds) =
-    his_joined w (is_over d.kind k && is_left_empty gone d.members) j (inners_left gone k (suc j) ds) (his_lefts w gone k (suc j) ds)
+his_lefts w gone k j (d ∷ ds) = grind (arith, common_steps, his_joined, is_over, his_lefts w gone k (suc j) ds)
 
 by_ending : (r : Registry) (name : List ℕ) (k : ℕ) (d : Device) → IsBy (Conn name) (end_act r name k d)
 by_ending r name k d = (refl, by (is_input d.kind))
@@ -173,15 +138,10 @@ by_item s r name (Said (Ok (ReadBuf device bytes))) k d = by_only (Conn name) (i
 by_item s r name (Said (Ok (Read device place attribute))) k d =
     by_only (Conn name) (is_named s device k) _
     (by_accepted (Conn name) (asking d) (found d (Conn name) place attribute) (λ target. by_only (Conn name) _ Asking tt))
-by_item s r name (Written device (Some target) payload) k d =
-    by_only (Conn name) (is_named s device k) _ (by_accepted (Conn name) setting (write_found d (Conn name) target.0 target.1 payload) (λ x. tt))
-by_item s r name (Streamed device payload) k d =
-    by_only (Conn name) (is_named s device k) _
-    (by_accepted (Conn name) (λ scans. Writing (Conn name) scans) (write_answer d (Conn name) payload) (λ scans. tt))
-by_item s r name (Said (Ok (SetTrig device trigger))) k d =
-    by_only (Conn name) (is_named s device k) _ (by_accepted (Conn name) (λ t. Retriggering t) (trigger_answer s (outline_of d) trigger) (λ t. tt))
-by_item s r name (Said (Ok (Remask device text))) k d =
-    by_only (Conn name) (is_named s device k) _ (by_accepted (Conn name) (λ x. Remasking x.member x.mask) (remask_answer d (Conn name) text) (λ x. tt))
+by_item s r name (Written device (Some target) payload) k d = grind (arith, common_steps)
+by_item s r name (Streamed device payload) k d = search rules
+by_item s r name (Said (Ok (SetTrig device trigger))) k d = search rules
+by_item s r name (Said (Ok (Remask device text))) k d = search rules
 by_item s r name (Said (Ok (EvOpen device))) k d = by_only (Conn name) (is_named s device k && d.site.plugged && is_input d.kind) (Holding (Conn name)) tt
 by_item s r name (Said (Ok (EvRead device))) k d = by_only (Conn name) (is_named s device k && d.site.plugged && is_input d.kind) (Draining (Conn name)) tt
 by_item s r name (Said (Ok (EvClose device))) k d = by_only (Conn name) (is_named s device k && d.site.plugged && is_input d.kind) (Releasing (Conn name)) tt
@@ -195,8 +155,7 @@ joined_member v [] m is = ap (λ b. b || false) is
 joined_member v (x ∷ ms) m is = ap (λ b. same v x.who || b) (joined_member v ms m is)
 
 his_apart : (a : List ℕ) (w x : Who) → same (Conn a) w ≡ false → IsHis w x → same (Conn a) x ≡ false
-his_apart a w (Conn name) apart is = ap (same (Conn a)) is ∙ apart
-his_apart a w (Inner j) apart is = refl
+his_apart a w x apart is = search rules
 
 among_apart : (a : List ℕ) (w : Who) (gone : List Who) → same (Conn a) w ≡ false → AreHis w gone → is_among (Conn a) gone ≡ false
 among_apart a w [] apart are = refl
@@ -204,43 +163,28 @@ among_apart a w (x ∷ gone) apart are = ap (λ b. b || is_among (Conn a) gone) 
 
 asked_kept : (a : List ℕ) (w : Who) (act : Act) (ms : List Member) → same (Conn a) w ≡ false → IsBy w act
     → is_member (Conn a) (members_after act ms) ≡ is_member (Conn a) ms
-asked_kept a w (Joining m) ms apart by = joined_member (Conn a) ms m (his_apart a w m.who apart by)
-asked_kept a w (Remasking m mask) ms apart by = member_masked (Conn a) m.who mask ms
-asked_kept a w (Leaving gone) ms apart by = member_left (Conn a) gone ms (among_apart a w gone apart by)
-asked_kept a w (Ending gone) ms apart by = member_left (Conn a) gone ms (among_apart a w gone apart by)
-asked_kept a w act ms apart by = refl
+asked_kept a w act ms apart by = search (rules, joined_member, his_apart, member_masked, member_left, among_apart)
 
 -- ---- what one's own act leaves as it is: whether another is a member
 
 his_mine : (w x : Who) → IsHis w x → mine w x ≡ true
-his_mine w (Conn name) is = ap (same w) is ∙ same_self w
-his_mine w (Inner j) is = refl
+his_mine w x is = search rules
 
 -- none of those that leave is another connection
 his_among : (w x : Who) (gone : List Who) → AreHis w gone → is_among x gone ≡ true → mine w x ≡ true
 his_among w x [] are is = cc
-his_among w x (y ∷ gone) are is = by (same x y) refl is (his_among w x gone are.1)
-  where
-    by : (b : Bool) → same x y ≡ b → (b || is_among x gone) ≡ true → (is_among x gone ≡ true → mine w x ≡ true) → mine w x ≡ true
-    by true own h rest = ap (mine w) (same_is x y own) ∙ his_mine w y are.0
-    by false own h rest = rest h
+his_among w x (y ∷ gone) are is = search (rules, same, same_is, his_mine, his_among w x gone are.1)
 
 left_other_by : (g : Bool) (w : Who) (m : Member) (zs ms : List Member) → (g ≡ true → mine w m.who ≡ true) → has_other w zs ≡ has_other w ms
     → has_other w (cond g zs (m ∷ zs)) ≡ (not (mine w m.who) || has_other w ms)
-left_other_by true w m zs ms own h = h ∙ ap (λ b. not b || has_other w ms) (sym (own refl))
-left_other_by false w m zs ms own h = ap (λ b. not (mine w m.who) || b) h
+left_other_by g w m zs ms own h = search rules
 
 left_other : (w : Who) (gone : List Who) (ms : List Member) → AreHis w gone → has_other w (without_members gone ms) ≡ has_other w ms
 left_other w gone [] are = refl
-left_other w gone (m ∷ ms) are =
-    left_other_by (is_among m.who gone) w m (without_members gone ms) ms (λ is. his_among w m.who gone are is) (left_other w gone ms are)
+left_other w gone (m ∷ ms) are = search (rules, left_other_by, his_among, left_other w gone ms are)
 
 others_kept : (w : Who) (act : Act) (ms : List Member) → IsBy w act → has_other w (members_after act ms) ≡ has_other w ms
-others_kept w (Joining m) ms by = other_joined w ms m (his_mine w m.who by)
-others_kept w (Remasking m mask) ms by = other_masked w m.who mask ms
-others_kept w (Leaving gone) ms by = left_other w gone ms by
-others_kept w (Ending gone) ms by = left_other w gone ms by
-others_kept w act ms by = refl
+others_kept w act ms by = search (rules, other_joined, his_mine, other_masked, left_other)
 
 pub each_kept : (v : Device → Bool) (f : ℕ → Device → Device) (k : ℕ) (ds : List Device) → ((j : ℕ) (d : Device) → v (f j d) ≡ v d)
     → map v (map_from f k ds) ≡ map v ds
@@ -260,8 +204,7 @@ held_in x = elim x [ None ↦ false | Some b ↦ b ]
 
 opened_in : (a : List ℕ) (x : Option Device)
     → elim x [ None ↦ false | Some d ↦ is_input d.kind && is_member (Conn a) d.members ] ≡ held_in (option_map (asked_of a) x)
-opened_in a None = refl
-opened_in a (Some d) = refl
+opened_in a x = search rules
 
 pub open_at_is : (r : Registry) (a : List ℕ) (k : ℕ) → has_open_at r a k ≡ held_in (slice_get (map (asked_of a) r.devices) k)
 open_at_is r a k = opened_in a (slice_get r.devices k) ∙ ap held_in (sym (get_map (asked_of a) r.devices k))
@@ -270,8 +213,7 @@ abbrev pub open_by : Registry → List ℕ → Option ℕ → Bool
 open_by r a o = elim o [ None ↦ false | Some k ↦ has_open_at r a k ]
 
 open_by_same : (r q : Registry) (a : List ℕ) (o : Option ℕ) → map (asked_of a) r.devices ≡ map (asked_of a) q.devices → open_by r a o ≡ open_by q a o
-open_by_same r q a None alike = refl
-open_by_same r q a (Some k) alike = open_at_is r a k ∙ ap (λ bs. held_in (slice_get bs k)) alike ∙ sym (open_at_is q a k)
+open_by_same r q a o alike = search (rules, open_at_is)
 
 open_same : (s : Setup) (r q : Registry) (a device : List ℕ) → map (asked_of a) r.devices ≡ map (asked_of a) q.devices
     → has_open s r a device ≡ has_open s q a device
@@ -279,14 +221,7 @@ open_same s r q a device alike = open_by_same r q a (find_device s.desc device) 
 
 neutral_same : (s : Setup) (r q : Registry) (a : List ℕ) (item : Item) → map (asked_of a) r.devices ≡ map (asked_of a) q.devices
     → is_neutral s r a item ≡ is_neutral s q a item
-neutral_same s r q a (Said (Ok (Open device samples text cyclic))) alike = open_same s r q a device alike
-neutral_same s r q a (Said (Ok (Close device))) alike = open_same s r q a device alike
-neutral_same s r q a (Said (Ok (ReadBuf device bytes))) alike = open_same s r q a device alike
-neutral_same s r q a (Said (Ok (Read device place attribute))) alike = open_same s r q a device alike
-neutral_same s r q a (Said (Ok (GetTrig device))) alike = open_same s r q a device alike
-neutral_same s r q a (Said (Ok (SetBuffers device n))) alike = open_same s r q a device alike
-neutral_same s r q a (Said (Ok (Remask device text))) alike = open_same s r q a device alike
-neutral_same s r q a item alike = refl
+neutral_same s r q a item alike = search (rules, open_same)
 
 met_is : (s : Setup) (a : List ℕ) (e : Event) (k : ℕ) (ds : List Device)
     → all_from (is_met s a e) k ds ≡ all_from (λ j b. not (ends_membership s a e j && b)) k (map (others_of a) ds)
@@ -299,17 +234,12 @@ met_same s r q a e alike = met_is s a e 0 r.devices ∙ ap (all_from (λ j b. no
 
 -- another's item ends no membership
 never_parts : (s : Setup) (a name : List ℕ) (item : Item) (k : ℕ) → bytes_eq name a ≡ false → ends_membership s a (Heard name item) k ≡ false
-never_parts s a name (Said (Ok (Close device))) k apart = ap (λ b. b && is_named s device k) apart
-never_parts s a name (Said (Ok (Remask device text))) k apart = ap (λ b. b && is_named s device k) apart
-never_parts s a name (End refusal) k apart = apart
-never_parts s a name item k apart = refl
+never_parts s a name item k apart = search rules
 
 pub all_unparted : (s : Setup) (a name : List ℕ) (item : Item) (k : ℕ) (ds : List Device) → bytes_eq name a ≡ false
     → all_from (is_met s a (Heard name item)) k ds ≡ true
 all_unparted s a name item k [] apart = refl
-all_unparted s a name item k (d ∷ ds) apart =
-    ap (λ b. not (b && has_other (Conn a) d.members) && all_from (is_met s a (Heard name item)) (suc k) ds) (never_parts s a name item k apart)
-    ∙ all_unparted s a name item (suc k) ds apart
+all_unparted s a name item k (d ∷ ds) apart = simp (never_parts, all_unparted s a name item (suc k) ds apart)
 
 -- ---- the items of a feed
 

@@ -1,11 +1,10 @@
 -- The two worlds: a connection's transcript with the other connections' steps is the one without them.
-use Rattle.std.proofs.Common.{◌≡◌, ℕ, suc, ◌&&◌, Option, Some, None, option_map, not, Bool, true, false, List, [], ◌∷◌, ◌++◌, map, cond, refl, sym, ap, ◌∙◌, subst}
+use Rattle.std.proofs.Common.{◌≡◌, ℕ, suc, ◌&&◌, Option, None, option_map, not, Bool, true, false, List, [], ◌∷◌, ◌++◌, map, cond, refl, sym, ap, ◌∙◌, subst, rules}
 use Rattle.std.proofs.lemmas.Bool.{and_parts}
 use Rattle.std.specs.Str.{bytes_eq}
-use Rattle.std.proofs.lemmas.Slice.Eq.{bytes_eq-Decides}
 use Rattle.iio_history.specs.Who.{Conn}
-use Rattle.iiod_grammar.specs.Stream.{Item, items_from}
-use Rattle.iio_history.specs.Event.{Event, Arrived, Heard, Handled}
+use Rattle.iiod_grammar.specs.Stream.{Item}
+use Rattle.iio_history.specs.Event.{Event, Heard, Handled}
 use Rattle.iio_history.specs.Registry.{Setup, Registry, has_ended}
 use Rattle.iio_history.specs.Fold.{registry_after}
 use Rattle.iio_history.specs.Told.{Told, registry_of, told}
@@ -130,17 +129,13 @@ heard_foreign a name [] apart = tt
 heard_foreign a name (item ∷ items) apart = (apart, heard_foreign a name items apart)
 
 own_fed : (a : List ℕ) (b : Bool) (es : List Event) → AllOwn a es → AllOwn a (cond b [] es)
-own_fed a true es are = tt
-own_fed a false es are = are
+own_fed a b es are = search rules
 
 foreign_fed : (a : List ℕ) (b : Bool) (es : List Event) → AllForeign a es → AllForeign a (cond b [] es)
-foreign_fed a true es are = tt
-foreign_fed a false es are = are
+foreign_fed a b es are = search rules
 
 own_of : (a : List ℕ) (m : Told) (t : Step) → IsOwnStep a t → AllOwn a (events_of_step m t)
-own_of a m (Feed name bytes) is =
-    own_fed a (has_ended name (registry_of m).users) (Arrived name bytes ∷ map (λ item. Heard name item) (items_from (begun_by name m.lines) bytes))
-    (is, heard_own a name (items_from (begun_by name m.lines) bytes) is)
+own_of a m (Feed name bytes) is = search (rules, own_fed, begun_by, heard_own)
 own_of a m (Fire trigger moment) is = (tt, handled_own a trigger (poll_entries m trigger moment))
 own_of a m (Poll trigger moment) is = (tt, tt)
 own_of a m (Handle trigger device) is = (tt, tt)
@@ -150,25 +145,13 @@ own_of a m (Drop name) is = (is, tt)
 own_of a m (Unplug device) is = (tt, tt)
 
 turned : (b : Bool) → not b ≡ true → b ≡ false
-turned true h = cc
-turned false h = refl
-
-kept : (b : Bool) → not b ≡ false → b ≡ true
-kept true h = refl
-kept false h = cc
+turned b h = search rules
 
 foreign_of : (a : List ℕ) (m : Told) (t : Step) → is_others a t ≡ true → AllForeign a (events_of_step m t)
-foreign_of a m (Feed name bytes) is =
-    let apart = turned (bytes_eq name a) is in
-    foreign_fed a (has_ended name (registry_of m).users) (Arrived name bytes ∷ map (λ item. Heard name item) (items_from (begun_by name m.lines) bytes))
-    (apart, heard_foreign a name (items_from (begun_by name m.lines) bytes) apart)
-foreign_of a m (Drop name) is = (turned (bytes_eq name a) is, tt)
-foreign_of a m t is = let never : false ≡ true = is in cc
+foreign_of a m t is = search (rules, turned, foreign_fed, begun_by, heard_foreign)
 
 is_own_step : (a : List ℕ) (t : Step) → is_others a t ≡ false → IsOwnStep a t
-is_own_step a (Feed name bytes) is = (bytes_eq-Decides name a).0 (kept (bytes_eq name a) is)
-is_own_step a (Drop name) is = (bytes_eq-Decides name a).0 (kept (bytes_eq name a) is)
-is_own_step a t is = tt
+is_own_step a t is = search rules
 
 ended_same : (s : Setup) (a : List ℕ) (h g : List Event) → AreAlike s a h g
     → has_ended a (registry_of (told s h)).users ≡ has_ended a (registry_of (told s g)).users
@@ -228,27 +211,16 @@ two_worlds s a steps only = kept_is s a steps [] [] (all_meet s a (with_steps s 
 -- ---- the step that offends
 
 none_below : (o : Option ℕ) → option_map suc o ≡ None → o ≡ None
-none_below None is = refl
-none_below (Some k) is = cc
+none_below o is = search rules
 
 none_offends : (s : Setup) (a : List ℕ) (ts : List Step) (h : List Event) → only_bystanders s a h ≡ true → first_offence s a h ts ≡ None
     → only_bystanders s a (with_steps s h ts) ≡ true
 none_offends s a [] h before none = before
-none_offends s a (t ∷ ts) h before none = by_step (only_bystanders s a (with_step s h t)) refl none (none_offends s a ts (with_step s h t))
-  where
-    by_step : (b : Bool) → only_bystanders s a (with_step s h t) ≡ b → cond b (option_map suc (first_offence s a (with_step s h t) ts)) (Some 0) ≡ None
-        → (only_bystanders s a (with_step s h t) ≡ true → first_offence s a (with_step s h t) ts ≡ None
-        → only_bystanders s a (with_steps s (with_step s h t) ts) ≡ true)
-        → only_bystanders s a (with_steps s (with_step s h t) ts) ≡ true
-    by_step true is none rest = rest is (none_below (first_offence s a (with_step s h t) ts) none)
-    by_step false is none rest = cc
+none_offends s a (t ∷ ts) h before none = search (rules, with_step, none_below, none_offends s a ts (with_step s h t))
 
 offends_none : (s : Setup) (a : List ℕ) (ts : List Step) (h : List Event) → OnlyBystanders s a (with_steps s h ts) → first_offence s a h ts ≡ None
 offends_none s a [] h only = refl
-offends_none s a (t ∷ ts) h only =
-    ap (λ b. cond b (option_map suc (first_offence s a (with_step s h t) ts)) (Some 0))
-    (meet_all s a (with_step s h t) (before_steps s a ts (with_step s h t) only))
-    ∙ ap (option_map suc) (offends_none s a ts (with_step s h t) only)
+offends_none s a (t ∷ ts) h only = search (rules, with_step, meet_all, before_steps, offends_none s a ts (with_step s h t) only)
 
 pub offence_is : (s : Setup) (a : List ℕ) (steps : List Step) → (first_offence s a [] steps ≡ None → only_bystanders s a (with_steps s [] steps) ≡ true)
     × (only_bystanders s a (with_steps s [] steps) ≡ true → first_offence s a [] steps ≡ None)

@@ -1,5 +1,6 @@
 -- A hub while it is made: one device after another.
-use Rattle.std.proofs.Common.{◌≡◌, ℕ, zero, suc, ◌+◌, ◌-◌, ◌≤◌, List, [], ◌∷◌, ◌++◌, map, length, replicate, slice_get, Option, Some, refl, sym, ap, ◌∙◌, arith, append_assoc}
+use Rattle.std.proofs.Common.{◌≡◌, ℕ, zero, suc, ◌+◌, ◌-◌, ◌≤◌, List, [], ◌∷◌, ◌++◌, map, length, replicate, slice_get, Option, Some, refl, sym, ap, ◌∙◌, arith, rules}
+use Rattle.std.proofs.lemmas.Grind.{common_steps}
 use Rattle.std.specs.Prelude.{Result, Ok, Err, IfOk}
 use Rattle.std.specs.Option.{option_map_or}
 use Rattle.iio_sensor.specs.Driver.{Driver}
@@ -14,17 +15,17 @@ use Rattle.iio_desc.specs.declared.description.TriggerDesc.{TriggerDesc}
 use Rattle.iio_device.specs.declared.device.Fitted.{Fitted}
 use Rattle.iio_device.specs.declared.iio_dev.IioDev.{IioDev}
 use Rattle.iio_device.specs.declared.plug.Plug.{Plug}
-use Rattle.iio_core.specs.Front.{Front, shape_at}
+use Rattle.iio_core.specs.Front.{shape_at}
 use Rattle.iio_kfifo.specs.Ends.{WriterEnd}
 use Rattle.iio_base.specs.declared.Mem.{Mem}
 use Rattle.iiod_bank.specs.declared.first.Parts.{Parts}
 use Rattle.iiod_bank.specs.declared.front.HubFront.{HubFront}
-use Rattle.iiod_bank.specs.FrontOf.{face_of, front_of, served_front}
+use Rattle.iiod_bank.specs.FrontOf.{front_of, served_front}
 use Rattle.iiod_bank.specs.Lent.{lent_by}
 use Rattle.iiod_bank.specs.Own.{Fits, FitsAt}
 use Rattle.iiod_bank.proofs.OwnLaws.{map_at}
 use Rattle.iio_probe.specs.Devices.{first_devices, first_driver}
-use Rattle.iiod_bank.specs.First.{first_triggers, idle_trigger}
+use Rattle.iiod_bank.specs.First.{first_triggers}
 
 -- ---- what holds of it
 
@@ -46,9 +47,7 @@ first_at drivers n zero (d ∷ ds) v e =
       number = ap (λ (x : DeviceView WriterEnd). x.number) same ∙ (let z : n ≡ n + 0 = omega arith in z);
       shape = ap (λ (x : DeviceView WriterEnd). x.standing.shape) same;
     }
-first_at drivers n (suc i) (d ∷ ds) v e =
-    let r = first_at drivers (suc n) i ds v e in
-    record { desc = r.desc; at = r.at; number = r.number ∙ (let z : suc n + i ≡ n + suc i = omega arith in z); shape = r.shape }
+first_at drivers n (suc i) (d ∷ ds) v e = search (rules, first_at drivers (suc n) i ds v e)
 
 length_first : (drivers : List Driver) (n : ℕ) (descs : List DeviceRecord) → length (first_devices {Q = WriterEnd} drivers n descs) ≡ length descs
 length_first drivers n [] = refl
@@ -68,8 +67,7 @@ module _ {X : Type 0} {V : X → Type 0} {g : Ghosts WriterEnd} where
       → map (λ d. lent_by drv d) devices ≡ first_devices drivers 0 desc.devices → front_of front ≡ served_front desc → many ≡ MAX_TRIGGERS
       → Fits front devices many
   first_fits drv front devices drivers desc many views fronts sixteen = record {
-    many = sym (length_map_is (λ d. lent_by drv d) devices) ∙ ap (λ (vs : List (DeviceView WriterEnd)). length vs) views ∙ length_first drivers 0 desc.devices
-        ∙ sym (length_map_is input_head desc.devices) ∙ ap (λ (f : Front). length f.devices) (sym fronts) ∙ length_map_is face_of front.devices.items;
+    many = search (rules, length_map_is, length_first);
     each =
         λ i d at. by i d (first_at drivers 0 i desc.devices (lent_by drv d)
         (ap (λ (vs : List (DeviceView WriterEnd)). slice_get vs i) (sym views) ∙ map_at (λ d. lent_by drv d) devices i d at));
@@ -77,39 +75,17 @@ module _ {X : Type 0} {V : X → Type 0} {g : Ghosts WriterEnd} where
   }
     where
       by : (i : ℕ) (d : Fitted (IioDev WriterEnd g) X V) → FirstAt drivers 0 i desc.devices (lent_by drv d) → FitsAt front i d
-      by i d r = record {
-        number = r.number ∙ (let z : 0 + i ≡ i = omega arith in z);
-        shaped = r.shape ∙ shape_first desc i r.desc r.at ∙ ap (λ (f : Front). shape_at f i) (sym fronts);
-      }
-
-one_more : (k : ℕ) (x : State) → replicate (suc k) x ≡ replicate k x ++ x ∷ []
-one_more zero x = refl
-one_more (suc k) x = ap (λ (xs : List State). x ∷ xs) (one_more k x)
+      by i d r = search (rules, shape_first)
 
 -- one more trigger, after that many
 pub trigger_more : (made : List State) (n k : ℕ) (x : State) (states states' : List State) → n ≤ k → states ≡ made ++ replicate (k - n) x
     → states' ≡ states ++ x ∷ [] → states' ≡ made ++ replicate (k + 1 - n) x
-trigger_more made n k x states states' low is pushed =
-    let one : k + 1 - n ≡ suc (k - n) = omega arith in
-    pushed ∙ ap (λ (xs : List State). xs ++ x ∷ []) is ∙ append_assoc made (replicate (k - n) x) (x ∷ [])
-    ∙ ap (λ (xs : List State). made ++ xs) (sym (one_more (k - n) x)) ∙ ap (λ (m : ℕ). made ++ replicate m x) (sym one)
-
-length_replicate : (k : ℕ) (x : State) → length (replicate k x) ≡ k
-length_replicate zero x = refl
-length_replicate (suc k) x = ap (λ (n : ℕ). suc n) (length_replicate k x)
-
-length_both : (xs ys : List State) → length (xs ++ ys) ≡ length xs + length ys
-length_both [] ys = let z : length ys ≡ 0 + length ys = omega arith in z
-length_both (x ∷ xs) ys = let z = length_both xs ys in omega (arith, z)
+trigger_more made n k x states states' low is pushed = grind (arith, common_steps)
 
 -- sixteen triggers, if no more are described
 pub sixteen_first : (described : List TriggerDesc) (states : List State) → length described ≤ MAX_TRIGGERS → states ≡ first_triggers described
     → length states ≡ MAX_TRIGGERS
-sixteen_first described states few is =
-    let both = length_both (map (λ (t : TriggerDesc). idle_trigger t.places) described) (replicate (MAX_TRIGGERS - length described) (idle_trigger 1)) in
-    let one = length_map_is (λ (t : TriggerDesc). idle_trigger t.places) described in
-    let two = length_replicate (MAX_TRIGGERS - length described) (idle_trigger 1) in
-    ap (λ (xs : List State). length xs) is ∙ omega (arith, both, one, two, few)
+sixteen_first described states few is = grind (arith, common_steps)
 
 -- if the parts were made
 module _ {X : Type 0} {V : X → Type 0} where

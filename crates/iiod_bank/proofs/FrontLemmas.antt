@@ -1,5 +1,5 @@
 -- Names and shapes in a front.
-use Rattle.std.proofs.Common.{◌≡◌, ℕ, zero, suc, ◌<◌, ◌≤◌, List, [], ◌∷◌, map, length, slice_get, get_or, Option, Some, refl, sym, ap, ◌∙◌, arith}
+use Rattle.std.proofs.Common.{◌≡◌, ℕ, zero, suc, ◌<◌, ◌≤◌, List, [], ◌∷◌, map, length, slice_get, get_or, Option, Some, refl, sym, ap, ◌∙◌, rules}
 use Rattle.std.specs.Prelude.{Bool, position, not}
 use Rattle.std.specs.List.{prefix_len}
 use Rattle.std.specs.Option.{option_map_or}
@@ -59,5 +59,4 @@ name_there front t x at = ap (λ (o : Option TriggerDesc). option_map_or (λ (y 
 
 pub name_past : (front : Front) (t n : ℕ) → n ≡ length front.triggers → n ≤ t → [] ≡ trigger_name front t
 unfolding trigger_name
-name_past front t n e past =
-    ap (λ (o : Option TriggerDesc). option_map_or (λ (y : TriggerDesc). y.name) o []) (sym (slice_get_past front.triggers t (omega arith)))
+name_past front t n e past = search (rules, slice_get_past)

@@ -1,6 +1,5 @@
 -- A bank without locks: one device changed.
-use Rattle.std.proofs.Common.{◌≡◌, ◌⊎◌, ℕ, zero, suc, ◌<◌, ℤ, List, [], ◌∷◌, map, length, set, slice_get, get_or, Option, Some, None, IfSome, inl, inr, refl, sym, ap, ◌∙◌, arith}
-use Rattle.iio_desc.specs.declared.limits.TheConstants.{MAX_TRIGGERS}
+use Rattle.std.proofs.Common.{◌≡◌, ◌⊎◌, ℕ, zero, suc, ◌<◌, ℤ, List, [], ◌∷◌, map, length, set, slice_get, get_or, Option, Some, None, inl, inr, refl, sym, ap, ◌∙◌, arith, rules}
 use Rattle.iio_kfifo.specs.declared.tail.Tail.{Ghosts}
 use Rattle.iio_layout.specs.Shape.{ShapeRecord}
 use Rattle.iio_trigger.specs.Trigger.{State}
@@ -14,8 +13,8 @@ use Rattle.iio_kfifo.specs.Ends.{WriterEnd}
 use Rattle.iiod_bank.specs.declared.front.HubFront.{HubFront}
 use Rattle.iiod_bank.specs.FrontOf.{front_of, face_of}
 use Rattle.iiod_bank.specs.Lent.{Kept, lent_by}
-use Rattle.iiod_bank.specs.Own.{Fits, FitsAt}
-use Rattle.iiod_bank.specs.Told.{Told, Ran, RanAt, trigger_at, with_trigger}
+use Rattle.iiod_bank.specs.Own.{Fits}
+use Rattle.iiod_bank.specs.Told.{Told, Ran, RanAt, with_trigger}
 
 module _ {A : Type 0} where
   pub reads : (xs : List A) (i : ℕ) (x : A) → i < length xs → x ≡ get_or xs i x → slice_get xs i ≡ Some x
@@ -28,11 +27,7 @@ module _ {A : Type 0} where
   after_set (z ∷ zs) zero zero x y e = inl (refl, cc)
   after_set (z ∷ zs) zero (suc j) x y e = inr e
   after_set (z ∷ zs) (suc i) zero x y e = inr e
-  after_set (z ∷ zs) (suc i) (suc j) x y e = by (after_set zs i j x y e)
-    where
-      by : ((j ≡ i) × (y ≡ x)) ⊎ (slice_get zs j ≡ Some y) → ((suc j ≡ suc i) × (y ≡ x)) ⊎ (slice_get zs j ≡ Some y)
-      by (inl p) = inl (ap (λ (n : ℕ). suc n) p.0, p.1)
-      by (inr p) = inr p
+  after_set (z ∷ zs) (suc i) (suc j) x y e = search (rules, after_set zs i j x y e)
 
   length_after : (xs : List A) (i : ℕ) (x : A) → length (set xs i x) ≡ length xs
   length_after [] i x = refl
@@ -46,16 +41,8 @@ module _ {A : Type 0} where
 
   pub map_at : {B : Type 0} (f : A → B) (xs : List A) (i : ℕ) (x : A) → slice_get xs i ≡ Some x → slice_get (map f xs) i ≡ Some (f x)
   map_at f [] i x e = absurd (cc)
-  map_at {B} f (z ∷ zs) zero x e = ap (λ (o : Option A). by o) e
-    where
-      by : Option A → Option B
-      by None = None
-      by (Some y) = Some (f y)
+  map_at {B} f (z ∷ zs) zero x e = cc
   map_at f (z ∷ zs) (suc i) x e = map_at f zs i x e
-
-made_at : {O : Type 0} (makes : DeviceView WriterEnd → Option State → O → DeviceView WriterEnd → Option State → Type 0) (a b : DeviceView WriterEnd) (o : O)
-    (x y z : Option State) → x ≡ y → makes a y o b z → makes a x o b z
-made_at makes a b o x y z e m = rw e m
 
 length_map_is : {A B : Type 0} (f : A → B) (xs : List A) → length (map f xs) ≡ length xs
 length_map_is f [] = refl
@@ -72,33 +59,12 @@ module _ {X : Type 0} {V : X → Type 0} {g : Ghosts WriterEnd} where
 
   pub below : (f : HubFront) (devices : List (Fitted (IioDev WriterEnd g) X V)) (n i k : ℕ) (s : (Fitted (IioDev WriterEnd g) X V)) → Fits f devices n
       → slice_get devices i ≡ Some s → s.core.trigger ≡ Some k → k < n
-  below f devices n i k s fits at e = rw fits.sixteen (by s.core.trigger e s.core.whole.below)
-    where
-      by : (o : Option ℕ) → o ≡ Some k → IfSome o (λ j. j < MAX_TRIGGERS) → k < MAX_TRIGGERS
-      by None e h = absurd (cc)
-      by (Some j) e h = let same : j ≡ k = cc in rw (← same) h
+  below f devices n i k s fits at e = search rules
 
   pub fits_after : (drv : Plug X V → Driver) (f : HubFront) (devices : List (Fitted (IioDev WriterEnd g) X V)) (n n' i : ℕ)
       (s t : (Fitted (IioDev WriterEnd g) X V)) → Fits f devices n → n' ≡ n → slice_get devices i ≡ Some s
       → Kept (lent_by drv s) (lent_by drv t) → Fits f (set devices i t) n'
-  fits_after drv f devices n n' i s t fits e at kept = record {
-    many = length_after devices i t ∙ fits.many;
-    each = λ j y h. by j y (after_set devices i j t y h);
-    sixteen = e ∙ fits.sixteen;
-  }
-    where
-      there : FitsAt f i s
-      there = fits.each i s at
-
-      here : FitsAt f i t
-      here = record {
-        number = kept.number ∙ there.number;
-        shaped = kept.shape ∙ there.shaped;
-      }
-
-      by : (j : ℕ) (y : (Fitted (IioDev WriterEnd g) X V)) → ((j ≡ i) × (y ≡ t)) ⊎ (slice_get devices j ≡ Some y) → FitsAt f j y
-      by j y (inl p) = rw (p.0, p.1) here
-      by j y (inr p) = fits.each j y p
+  fits_after drv f devices n n' i s t fits e at kept = search (rules, length_after, after_set)
 
   -- a job's condition at a device that is there
   pub may_at : (may : ShapeRecord → Type 0) (f : HubFront) (devices : List (Fitted (IioDev WriterEnd g) X V)) (n i : ℕ) (s : (Fitted (IioDev WriterEnd g) X V))
@@ -119,9 +85,7 @@ module _ {X : Type 0} {V : X → Type 0} {g : Ghosts WriterEnd} where
         at = map_at (λ x. lent_by drv x) devices i s at;
         new = lent_by drv t;
         t = None;
-        made =
-            made_at makes (lent_by drv s) (lent_by drv t) o (trigger_at triggers s.core.trigger) None None (ap (λ (z : Option ℕ). trigger_at triggers z) none)
-            m;
+        made = search rules;
         after = rw (ap (λ (z : Option ℕ). with_trigger triggers z None) none, map_after (λ x. lent_by drv x) devices i t) refl;
       },
     )
@@ -139,9 +103,7 @@ module _ {X : Type 0} {V : X → Type 0} {g : Ghosts WriterEnd} where
         at = map_at (λ x. lent_by drv x) devices i s at;
         new = lent_by drv t;
         t = Some v;
-        made =
-            made_at makes (lent_by drv s) (lent_by drv t) o (trigger_at triggers s.core.trigger) (Some u) (Some v)
-            (ap (λ (z : Option ℕ). trigger_at triggers z) some ∙ there) m;
+        made = search rules;
         after = rw (ap (λ (z : Option ℕ). with_trigger triggers z (Some v)) some, map_after (λ x. lent_by drv x) devices i t) refl;
       },
     )

@@ -1,7 +1,6 @@
 -- Members that leave one after another.
-use Rattle.std.proofs.Common.{◌≡◌, ℕ, suc, ◌<◌, ◌≤◌, Bool, true, false, cond, List, [], ◌∷◌, length, Option, Some, None, refl, sym, ap, ◌∙◌, arith, not}
-use Rattle.std.specs.Prelude.{◌==◌, option_map}
-use Rattle.std.proofs.lemmas.Bool.Decides.{nat_tests}
+use Rattle.std.proofs.Common.{◌≡◌, ℕ, suc, ◌<◌, ◌≤◌, List, [], ◌∷◌, length, Option, Some, None, refl, sym, ap, ◌∙◌, arith, rules}
+use Rattle.std.specs.Prelude.{option_map}
 use Rattle.iio_trigger.specs.Trigger.{State}
 use Rattle.iio_device.specs.declared.membership.Member.{Member}
 use Rattle.iio_device.specs.declared.membership.Membership.{Membership}
@@ -20,32 +19,17 @@ kept_gone a b e = kept_along a (gone a) b e (record { name = refl; number = refl
 
 fewer_by : (number : ℕ) (ms : List (Membership WriterEnd)) → length (without number ms) ≤ length ms
 fewer_by number [] = omega arith
-fewer_by number (m ∷ ms) = by (m.number == number) (fewer_by number ms)
-  where
-    by : (b : Bool) → length (without number ms) ≤ length ms → length (cond (not b) (m ∷ without number ms) (without number ms)) ≤ suc (length ms)
-    by true h = omega arith
-    by false h = omega arith
+fewer_by number (m ∷ ms) = search (rules, fewer_by number ms)
 
 pub fewer : (number : ℕ) (ms : List (Membership WriterEnd)) → first_number ms ≡ Some number → length (without number ms) < length ms
-fewer number [] e = absurd (cc)
-fewer number (m ∷ ms) e =
-    let same : m.number ≡ number = cc in
-    let test : (m.number == number) ≡ true = grind (arith, nat_tests) in
-    let h = fewer_by number ms in
-    by (m.number == number) test h
-  where
-    by : (b : Bool) → b ≡ true → length (without number ms) ≤ length ms → length (cond (not b) (m ∷ without number ms) (without number ms)) < suc (length ms)
-    by true e h = omega arith
-    by false e h = absurd (cc)
+fewer number ms e = search (rules, fewer_by)
 
 pub first_is : (ms : List (Membership WriterEnd)) (o : Option Member) (m : Member) → option_map (λ (x : Member). x.number) o ≡ first_number ms → o ≡ Some m
     → first_number ms ≡ Some m.number
 first_is ms o m e d = sym e ∙ ap (λ (p : Option Member). option_map (λ (x : Member). x.number) p) d
 
 pub none_left : (ms : List (Membership WriterEnd)) (o : Option Member) → option_map (λ (x : Member). x.number) o ≡ first_number ms → o ≡ None → ms ≡ []
-none_left [] o e d = refl
-none_left (m ∷ ms) o e d =
-    absurd (let h : option_map (λ (x : Member). x.number) o ≡ None = ap (λ (p : Option Member). option_map (λ (x : Member). x.number) p) d in cc)
+none_left ms o e d = search rules
 
 pub record IsEmptying (a : DeviceView WriterEnd) (s : State) (b : DeviceView WriterEnd) (t : State) : Type 0 where
   pub members : ℕ
@@ -70,7 +54,4 @@ smaller c b u t number tail first left = rw (ap (λ (v : DeviceView WriterEnd). 
 
 pub emptied : (a : DeviceView WriterEnd) (s : State) (x b : DeviceView WriterEnd) (t : State) → x ≡ gone a → IsEmptying x s b t → b.standing.members ≡ []
     → Emptied a s b t
-emptied a s x b t e now none = by (rw e at now)
-  where
-    by : IsEmptying (gone a) s b t → Emptied a s b t
-    by now = record { members = now.members; left = now.left; none = none }
+emptied a s x b t e now none = search rules

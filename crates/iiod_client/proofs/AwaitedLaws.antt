@@ -1,12 +1,13 @@
 -- What the bytes mean that come where an answer is awaited, and that they have one meaning.
-use Rattle.std.proofs.Common.{◌≡◌, ◌⊎◌, inl, inr, ℕ, List, [], ◌∷◌, ◌++◌, length, Option, Some, None, refl, sym, ap, subst, ◌∙◌, arith, append_assoc, append-nil, length-append}
+use Rattle.std.proofs.Common.{◌≡◌, ◌⊎◌, inl, inr, ℕ, List, [], ◌∷◌, ◌++◌, Option, Some, None, refl, sym, ap, subst, ◌∙◌, arith, append_assoc, append-nil, rules}
+use Rattle.std.proofs.lemmas.Grind.{common_steps}
 use Rattle.std.proofs.lemmas.List.{nil_from_length}
 use Rattle.iiod_client.specs.declared.answer.State.{State}
 use Rattle.iiod_client.specs.declared.answer.State.TheVariants as state
 use Rattle.iiod_client.specs.Line.{line_text, HasNoLf, IsBegunLine, IsLongLine, zero_line, refusal_of}
 use Rattle.iiod_client.specs.Awaited.{Awaited, Plain, Scans, Nothing, IsAccepted, IsPlainRefusal, IsWrongPlain}
 use Rattle.iiod_client.specs.Standing.{Reads, IsEnd, told_body}
-use Rattle.iiod_client.proofs.Machine.{one_reading, zero_refusal}
+use Rattle.iiod_client.proofs.Machine.{one_reading}
 
 -- ---- lines
 
@@ -21,10 +22,7 @@ one_line : (xs ys ms ns : List ℕ) → HasNoLf xs → HasNoLf ys → xs ++ 10 �
 one_line [] [] ms ns k l e = (refl, rest_same 10 10 ms ns e)
 one_line [] (y ∷ ys) ms ns k l e = absurd (l.0 (sym (first_same 10 y ms (ys ++ 10 ∷ ns) e)))
 one_line (x ∷ xs) [] ms ns k l e = absurd (k.0 (first_same x 10 (xs ++ 10 ∷ ms) ns e))
-one_line (x ∷ xs) (y ∷ ys) ms ns k l e =
-    let head = first_same x y (xs ++ 10 ∷ ms) (ys ++ 10 ∷ ns) e in
-    let more = one_line xs ys ms ns k.1 l.1 (rest_same x y (xs ++ 10 ∷ ms) (ys ++ 10 ∷ ns) e) in
-    (ap (λ z. z ∷ xs) head ∙ ap (λ zs. y ∷ zs) more.0, more.1)
+one_line (x ∷ xs) (y ∷ ys) ms ns k l e = search (rules, first_same, rest_same, one_line xs ys ms ns k.1 l.1 (rest_same x y (xs ++ 10 ∷ ms) (ys ++ 10 ∷ ns) e))
 
 has_lf : (xs ms : List ℕ) → HasNoLf (xs ++ 10 ∷ ms) → ⊥
 has_lf [] ms h = h.0 refl
@@ -63,51 +61,22 @@ record PlainEnd (s : State) (text body : List ℕ) : Type 0 where
   text_is : text ≡ line_text line
 
 plain_end : (s : State) (text body : List ℕ) → IsEnd s → ReadsAs Plain s text body → PlainEnd s text body ⊎ (IsLongLine text × (s ≡ state.Malformed))
-plain_end state.More text body is r = absurd is
-plain_end state.Done text body is r = inl (record { line = zero_line; is_line = zero_begun; says = refl; none = r.1; text_is = r.0 })
-plain_end (state.Refused n) text body is r = inl (record { line = r.line; is_line = r.is_line; says = r.number; none = refl; text_is = r.text_is })
-plain_end state.Malformed text body is (inl w) =
-    inl (record { line = w.line; is_line = w.is_line; says = (w.no_zero, w.no_refusal); none = refl; text_is = w.text_is })
-plain_end state.Malformed text body is (inr l) = inr (l, refl)
+plain_end s text body is r = search (rules, zero_begun)
 
 one_says : (line : List ℕ) (s t : State) → SaysLine line s → SaysLine line t → t ≡ s
-one_says line state.More t a b = absurd a
-one_says line state.Done state.More a b = absurd b
-one_says line state.Done state.Done a b = refl
-one_says line state.Done (state.Refused k) a b = absurd (zero_refusal line k b a)
-one_says line state.Done state.Malformed a b = absurd (b.0 a)
-one_says line (state.Refused n) state.More a b = absurd b
-one_says line (state.Refused n) state.Done a b = absurd (zero_refusal line n a b)
-one_says line (state.Refused n) (state.Refused k) a b = let e : refusal_of line ≡ Some n = a in let f : refusal_of line ≡ Some k = b in cc
-one_says line (state.Refused n) state.Malformed a b = let e : refusal_of line ≡ Some n = a in let f : refusal_of line ≡ None = b.1 in absurd cc
-one_says line state.Malformed state.More a b = absurd b
-one_says line state.Malformed state.Done a b = absurd (a.0 b)
-one_says line state.Malformed (state.Refused k) a b = let e : refusal_of line ≡ None = a.1 in let f : refusal_of line ≡ Some k = b in absurd cc
-one_says line state.Malformed state.Malformed a b = refl
+one_says line s t a b = search rules
 
 -- a text that has ended has no other reading, and no longer text that begins with it has any
 abbrev One : (s t : State) (more body other : List ℕ) → Type 0
 One s t more body other = (more ≡ []) × (t ≡ s) × (told_body t other ≡ told_body s body)
 
 not_begun : (s : State) (text body more : List ℕ) → PlainEnd s text body ⊎ (IsLongLine text × (s ≡ state.Malformed)) → IsBegunLine (text ++ more) → ⊥
-not_begun s text body more (inl p) b = has_lf p.line more (subst HasNoLf (spelled p.line text more p.text_is) b.no_lf)
-not_begun s text body more (inr l) b = omega (arith, l.0.one_more, b.few, length-append text more)
+not_begun s text body more h1 b = grind (arith, common_steps, has_lf, spelled)
 
 one_end : (s t : State) (text more body other : List ℕ) → PlainEnd s text body ⊎ (IsLongLine text × (s ≡ state.Malformed)) → PlainEnd t (text ++ more) other
     ⊎ (IsLongLine (text ++ more) × (t ≡ state.Malformed))
     → One s t more body other
-one_end s t text more body other (inl p) (inl r) =
-    let same = one_line p.line r.line more [] p.is_line.no_lf r.is_line.no_lf (sym (spelled p.line text more p.text_is) ∙ r.text_is) in
-    (same.1, one_says p.line s t p.says (subst (λ xs. SaysLine xs t) (sym same.0) r.says), r.none ∙ sym p.none)
-one_end s t text more body other (inl p) (inr l) = absurd (has_lf p.line more (subst HasNoLf (spelled p.line text more p.text_is) l.0.no_lf))
-one_end s t text more body other (inr l) (inl r) =
-    let none : more ≡ [] =
-    nil_from_length more (omega (arith, l.0.one_more, r.is_line.few, ap length r.text_is, length-append text more, length-append r.line (10 ∷ []))) in
-    let whole : text ≡ r.line ++ 10 ∷ [] = sym (append-nil text) ∙ ap (λ xs. text ++ xs) (sym none) ∙ r.text_is in
-    absurd (has_lf r.line [] (subst HasNoLf whole l.0.no_lf))
-one_end s t text more body other (inr l) (inr k) =
-    let none : more ≡ [] = nil_from_length more (omega (arith, l.0.one_more, k.0.one_more, length-append text more)) in
-    (none, k.1 ∙ sym l.1, ap (λ (x : State). told_body x other) k.1 ∙ sym (ap (λ (x : State). told_body x body) l.1))
+one_end s t text more body other h1 h2 = grind (arith, common_steps, one_line, spelled, one_says, has_lf, nil_from_length)
 
 one_plain : (s t : State) (text more body other : List ℕ) → IsEnd s → ReadsAs Plain s text body → ReadsAs Plain t (text ++ more) other → One s t more body other
 one_plain s state.More text more body other is r k = absurd (not_begun s text body more (plain_end s text body is r) k)
@@ -151,15 +120,7 @@ split : (xs ys ms ns : List ℕ) → xs ++ ms ≡ ys ++ ns
     → ((more : List ℕ) × (ys ≡ xs ++ more) × (ms ≡ more ++ ns)) ⊎ ((more : List ℕ) × (xs ≡ ys ++ more) × (ns ≡ more ++ ms))
 split [] ys ms ns e = inl (ys, refl, e)
 split (x ∷ xs) [] ms ns e = inr (x ∷ xs, refl, sym e)
-split (x ∷ xs) (y ∷ ys) ms ns e = by (split xs ys ms ns (rest_same x y (xs ++ ms) (ys ++ ns) e))
-  where
-    head : x ≡ y
-    head = first_same x y (xs ++ ms) (ys ++ ns) e
-
-    by : ((more : List ℕ) × (ys ≡ xs ++ more) × (ms ≡ more ++ ns)) ⊎ ((more : List ℕ) × (xs ≡ ys ++ more) × (ns ≡ more ++ ms))
-        → ((more : List ℕ) × (y ∷ ys ≡ x ∷ (xs ++ more)) × (ms ≡ more ++ ns)) ⊎ ((more : List ℕ) × (x ∷ xs ≡ y ∷ (ys ++ more)) × (ns ≡ more ++ ms))
-    by (inl (more, f, g)) = inl (more, ap (λ zs. y ∷ zs) f ∙ ap (λ z. z ∷ (xs ++ more)) (sym head), g)
-    by (inr (more, f, g)) = inr (more, ap (λ zs. x ∷ zs) f ∙ ap (λ z. z ∷ (ys ++ more)) head, g)
+split (x ∷ xs) (y ∷ ys) ms ns e = search (rules, rest_same, first_same, split xs ys ms ns (rest_same x y (xs ++ ms) (ys ++ ns) e))
 
 front_none : (xs ys : List ℕ) → xs ++ ys ≡ [] → xs ≡ []
 front_none [] ys e = refl
@@ -189,9 +150,7 @@ pub one_front : (w : Awaited) (text text' more more' body body' : List ℕ) → 
 one_front w text text' more more' body body' a b e = by (split text text' more more' e)
   where
     done : (w : Awaited) (text body : List ℕ) → IsAccepted w text body → ReadsAs w state.Done text body
-    done Plain text body a = a
-    done (Scans q) text body a = a
-    done Nothing text body a = absurd a
+    done w text body a = search rules
 
     front : (x y u v body other m : List ℕ) → IsAccepted w x body → IsAccepted w y other → y ≡ x ++ m → u ≡ m ++ v → (x ≡ y) × (body ≡ other) × (u ≡ v)
     front x y u v body other m a b f g =
@@ -202,8 +161,3 @@ one_front w text text' more more' body body' a b e = by (split text text' more m
         × (body ≡ body') × (more ≡ more')
     by (inl (m, f, g)) = front text text' more more' body body' m a b f g
     by (inr (m, f, g)) = let one = front text' text more' more body' body m b a f g in (sym one.0, sym one.1, sym one.2)
-
-pub accepted_tells : (w : Awaited) (bytes text more body : List ℕ) → IsAccepted w text body → bytes ≡ text ++ more → Tells w bytes state.Done
-accepted_tells Plain bytes text more body a e = record { text = text; more = more; body = body; reads = a; ended = inl tt; bytes_are = e }
-accepted_tells (Scans q) bytes text more body a e = record { text = text; more = more; body = body; reads = a; ended = inl tt; bytes_are = e }
-accepted_tells Nothing bytes text more body a e = absurd a

@@ -1,22 +1,21 @@
 -- Talks of a client, each line followed by its answer.
-use Rattle.std.proofs.Common.{◌≡◌, ◌⊎◌, inl, inr, ◌≤◌, ◌<◌, ◌+◌, ◌-◌, ◌*◌, ◌/◌, ◌%◌, ℕ, zero, suc, List, [], ◌∷◌, ◌++◌, length, Option, Result, Ok, Err, refl, sym, ap, subst, ◌∙◌, arith, append-nil}
+use Rattle.std.proofs.Common.{◌≡◌, ◌⊎◌, inl, inr, ◌≤◌, ◌<◌, ◌+◌, ◌-◌, ◌*◌, ◌/◌, ℕ, List, [], ◌∷◌, ◌++◌, length, Option, Result, Ok, Err, refl, sym, ap, subst, ◌∙◌, arith, append-nil, rules}
+use Rattle.std.proofs.lemmas.Grind.{common_steps}
 use Rattle.std.specs.Prelude.{⊤, OnOk, OnErr, IfErr, min}
 use Rattle.std.proofs.lemmas.Bool.{cases_lt}
-use Rattle.std.proofs.Math.Nat.{mul-le-mul_left}
 use Rattle.iiod_client.specs.declared.client.TheConstants.{MOST_SCANS}
 use Rattle.iiod_client.proofs.Stands.{blocks_some}
 use Rattle.iiod_client.specs.declared.client_end.ClientEnd.{ClientEnd}
 use Rattle.iiod_client.specs.declared.client_end.ClientEnd.TheVariants.{Done, Refused, LinkFault, WriteFault, Memory, Malformed, Cut}
-use Rattle.iiod_client.specs.Line.{line_text, zero_line}
 use Rattle.iiod_client.specs.Answer.{IsAnswer}
 use Rattle.iiod_client.specs.Ask.{Wanted, batch, question, size_for, open_line, readbuf_line, close_line, exit_line}
 use Rattle.iiod_client.specs.Awaited.{Plain, Scans}
-use Rattle.iiod_client.specs.ClientEnd.{EndsRefused, EndsEarly, EndsRefusing, Ends}
+use Rattle.iiod_client.specs.ClientEnd.{EndsRefused, EndsEarly, Ends}
 use Rattle.iiod_client.specs.Exchange.{Fails, Exchanges, Reads, Breaks, BreaksOf, Refuses}
-use Rattle.iiod_client.specs.Point.{Point, Goes, Stops, Heard, Wrote, WroteFront, point}
+use Rattle.iiod_client.specs.Point.{Point, Goes, Stops, Wrote, WroteFront, point}
 use Rattle.iiod_client.specs.Printed.{scan_lines, refused_line}
 use Rattle.iiod_client.specs.Talk.{Read, AreReads, Stage, Reading, Closing, Leaving, IsStage, heard_at, said_before, line_at, sent_at, printed_at, awaits, got_by, heard_of, sent_for, printed_for}
-use Rattle.iiod_client.proofs.Heard.{heard_none, heard_front, wrote_none, front_whole, front_on, all_of, goes_more, stops_more, wrote_more, wrote_front}
+use Rattle.iiod_client.proofs.Heard.{heard_none, heard_front, wrote_none, front_on, all_of, goes_more, stops_more, wrote_more, wrote_front}
 
 pub at_err : {A : Type 0} (P : Result A ClientEnd → Type 0) (r : Result A ClientEnd) (y e : ClientEnd) → r ≡ Err y → y ≡ e → P (Err e) → P r
 at_err {A} P r y e p q h = subst P (sym (p ∙ ap (λ (x : ClientEnd). Err x) q)) h
@@ -27,25 +26,13 @@ pub goes_none : (l : Option (List ℕ)) (p : List ℕ) (s o : Option (List ℕ))
 goes_none l p s o = record { hears = heard_none l p s o s o; sends = wrote_none s; prints = wrote_none o }
 
 pub stops_none : (l : Option (List ℕ)) (p : List ℕ) (s o : Option (List ℕ)) (line : List ℕ) → Stops (point l p s o) [] line [] (point l p s o)
-stops_none l p s o line = record {
-  hears = heard_front (point l p s o) (point l p s o) [] (heard_none l p s o s o);
-  sends = front_whole s s [] line (wrote_none s);
-  prints = all_of o o [] (wrote_none o);
-}
+stops_none l p s o line = search rules
 
 -- ---- a stage
 
 pub early : (w : Wanted) (stage : Stage) (a b : Point) → IsStage w stage → Goes a (heard_at stage) (said_before w stage) (printed_at w stage) b
     → EndsEarly w a b
-early w stage a b is g = record {
-  stage = stage;
-  is_stage = is;
-  goes = record {
-    hears = heard_front a b (heard_at stage) g.hears;
-    sends = front_whole a.sent b.sent (said_before w stage) (line_at w stage) g.sends;
-    prints = all_of a.printed b.printed (printed_at w stage) g.prints;
-  };
-}
+early w stage a b is g = search rules
 
 -- the line of a stage was sent, but its answer didn't come
 pub stage_fails : (w : Wanted) (stage : Stage) (line : List ℕ) (e : ClientEnd) (a b c : Point) → IsStage w stage
@@ -57,9 +44,7 @@ stage_fails w stage line e a b c is g same f = by e (subst (λ xs. Fails (awaits
     all = line_at w stage
 
     goes : (text : List ℕ) → Goes b text all [] c → Goes a (heard_at stage ++ text) (sent_at w stage) (printed_at w stage) c
-    goes text j =
-        subst (λ xs. Goes a (heard_at stage ++ text) (sent_at w stage) xs c) (append-nil (printed_at w stage))
-        (goes_more a b c (heard_at stage) text (said_before w stage) all (printed_at w stage) [] g j)
+    goes text j = grind (arith, common_steps)
 
     stops : Stops b [] all [] c → EndsEarly w a c
     stops j = record {
@@ -72,15 +57,7 @@ stage_fails w stage line e a b c is g same f = by e (subst (λ xs. Fails (awaits
 
     by : (e : ClientEnd) → Fails (awaits w stage) all e b c → Breaks w e a c
     by Done f = absurd f
-    by (Refused n) f =
-        record {
-          stage = stage;
-          is_stage = is;
-          text = f.0;
-          refused = f.1;
-          goes =
-              goes_more a b c (heard_at stage) f.0 (said_before w stage) all (printed_at w stage) [] g f.2;
-        }
+    by (Refused n) f = grind (arith, common_steps)
     by LinkFault f = stops f
     by WriteFault f = absurd f
     by Memory f = stops f
@@ -91,44 +68,22 @@ stage_fails w stage line e a b c is g same f = by e (subst (λ xs. Fails (awaits
 
 pub opened : (w : Wanted) (line : List ℕ) (a b : Point) → line ≡ open_line w → Exchanges {A = ⊤} Plain line [] (Ok tt) a b
     → Goes a (heard_of []) (open_line w) [] b
-opened w line a b e x =
-    subst (λ xs. Goes a (line_text zero_line) xs [] b) e (subst (λ xs. Goes a xs line [] b) x.1.0 x.2)
+opened w line a b e x = search rules
 
 pub closed : (w : Wanted) (reads : List Read) (line : List ℕ) (a b c : Point) → line ≡ close_line w
     → Goes a (heard_at (Closing reads)) (said_before w (Closing reads)) (printed_at w (Closing reads)) b
     → Exchanges {A = ⊤} Plain line [] (Ok tt) b c → Goes a (heard_at (Leaving reads)) (said_before w (Leaving reads)) (printed_at w (Leaving reads)) c
-closed w reads line a b c e g x =
-    let j = subst (λ xs. Goes b (line_text zero_line) xs [] c) e (subst (λ xs. Goes b xs line [] c) x.1.0 x.2) in
-    subst (λ xs. Goes a (heard_of reads ++ line_text zero_line) (sent_for w reads ++ close_line w) xs c) (append-nil (printed_for w reads))
-    (goes_more a b c (heard_of reads) (line_text zero_line) (sent_for w reads) (close_line w) (printed_for w reads) [] g j)
-
-heard_still : (l m : Option (List ℕ)) (p : List ℕ) (s o s2 o2 : Option (List ℕ)) → m ≡ l → Heard (point l p s o) [] (point m p s2 o2)
-heard_still l m p s o s2 o2 e = subst (λ (x : Option (List ℕ)). Heard (point l p s o) [] (point x p s2 o2)) (sym e) (heard_none l p s o s2 o2)
+closed w reads line a b c e g x = grind (arith, common_steps)
 
 pub left_all : (w : Wanted) (reads : List Read) (line : List ℕ) (r : Result ⊤ ClientEnd) (a : Point) (l m : Option (List ℕ)) (p : List ℕ)
     (s t o : Option (List ℕ)) → line ≡ exit_line → IsStage w (Leaving reads)
     → Goes a (heard_at (Leaving reads)) (said_before w (Leaving reads)) (printed_at w (Leaving reads)) (point l p s o)
     → m ≡ l → OnOk r (Wrote s line t) → OnErr r (WroteFront s line t) → IfErr r (λ e. e ≡ LinkFault) → BreaksOf w r a (point m p t o)
-left_all w reads line (Ok x) a l m p s t o e is g same sent part fails =
-    let b = point l p s o in
-    let c = point m p t o in
-    let j : Goes b [] line [] c = record { hears = heard_still l m p s o t o same; sends = sent; prints = wrote_none o } in
-    let k = subst (λ xs. Goes b [] xs [] c) e j in
-    let all = goes_more a b c (heard_at (Leaving reads)) [] (said_before w (Leaving reads)) exit_line (printed_at w (Leaving reads)) [] g k in
-    record {
-      reads = reads;
-      is_stage = is;
-      goes = subst (λ xs. Goes a xs (sent_at w (Leaving reads)) (printed_for w reads) c) (append-nil (heard_at (Leaving reads)))
-          (subst (λ xs. Goes a (heard_at (Leaving reads) ++ []) (sent_at w (Leaving reads)) xs c) (append-nil (printed_for w reads)) all);
-    }
+left_all w reads line (Ok x) a l m p s t o e is g same sent part fails = grind (arith, common_steps)
 left_all w reads line (Err y) a l m p s t o e is g same sent part fails =
     let b = point l p s o in
     let c = point m p t o in
-    let stop : Stops b [] exit_line [] c = record {
-      hears = heard_front b c [] (heard_still l m p s o t o same);
-      sends = subst (λ xs. WroteFront s xs t) e part;
-      prints = all_of o o [] (wrote_none o);
-    } in
+    let stop : Stops b [] exit_line [] c = search rules in
     subst (λ (x : ClientEnd). Breaks w x a c) (sym fails)
     (stage_fails w (Leaving reads) exit_line LinkFault a b c is g refl stop)
 
@@ -136,50 +91,20 @@ left_all w reads line (Err y) a l m p s t o e is g same sent part fails =
 
 pub fails_reads : (w : Wanted) (got : ℕ) (line : List ℕ) (e : ClientEnd) (a b : Point) → line ≡ readbuf_line w (batch w got)
     → Fails (Scans (question w got)) line e a b → Reads w got (Err e) a b
-fails_reads w got line e a b same f = by e (subst (λ xs. Fails (Scans (question w got)) xs e a b) same f)
-  where
-    by : (e : ClientEnd) → Fails (Scans (question w got)) (readbuf_line w (batch w got)) e a b → Reads w got (Err e) a b
-    by Done f = absurd f
-    by (Refused n) f = f
-    by LinkFault f = f
-    by WriteFault f = absurd f
-    by Memory f = inl f
-    by Malformed f = f
-    by Cut f = f
+fails_reads w got line e a b same f = search rules
 
 -- the printing stopped
 pub print_fails : (w : Wanted) (got : ℕ) (line body : List ℕ) (e : ClientEnd) (a : Point) (l : Option (List ℕ)) (p : List ℕ) (s o t : Option (List ℕ))
     → line ≡ readbuf_line w (batch w got)
     → Exchanges {A = ⊤} (Scans (question w got)) line body (Ok tt) a (point l p s o) → WroteFront o (scan_lines w.shape w.mask body) t → (e ≡ WriteFault)
     ⊎ (e ≡ Memory) → Reads w got (Err e) a (point l p s t)
-print_fails w got line body e a l p s o t same x part which = by which
-  where
-    stops : Stops a x.0 (readbuf_line w (batch w got)) (scan_lines w.shape w.mask body) (point l p s t)
-    stops = record {
-      hears = heard_front a (point l p s o) x.0 x.2.hears;
-      sends = subst (λ xs. WroteFront a.sent xs s) same (all_of a.sent s line x.2.sends);
-      prints = wrote_front a.printed o t [] (scan_lines w.shape w.mask body) x.2.prints part;
-    }
-
-    by : (e ≡ WriteFault) ⊎ (e ≡ Memory) → Reads w got (Err e) a (point l p s t)
-    by (inl q) = subst (λ (y : ClientEnd). Reads w got (Err y) a (point l p s t)) (sym q) (x.0, body, x.1, stops)
-    by (inr q) = subst (λ (y : ClientEnd). Reads w got (Err y) a (point l p s t)) (sym q) (inr (x.0, body, x.1, stops))
+print_fails w got line body e a l p s o t same x part which = grind (arith, common_steps, heard_front, all_of, wrote_front)
 
 pub print_ends : (w : Wanted) (got more : ℕ) (line body : List ℕ) (a : Point) (l : Option (List ℕ)) (p : List ℕ) (s o t : Option (List ℕ))
     → line ≡ readbuf_line w (batch w got)
     → Exchanges {A = ⊤} (Scans (question w got)) line body (Ok tt) a (point l p s o) → Wrote o (scan_lines w.shape w.mask body) t
     → more ≡ length body / size_for w → Reads w got (Ok more) a (point l p s t)
-print_ends w got more line body a l p s o t same x shown count = (
-  x.0,
-  body,
-  x.1,
-  count,
-  record {
-    hears = x.2.hears;
-    sends = subst (λ xs. Wrote a.sent xs s) same x.2.sends;
-    prints = wrote_more a.printed o t [] (scan_lines w.shape w.mask body) x.2.prints shown;
-  },
-)
+print_ends w got more line body a l p s o t same x shown count = grind (arith, common_steps)
 
 -- the stage after these answers
 pub after_reads : (w : Wanted) (reads : List Read) (a b : Point) → AreReads w reads → got_by w reads ≤ w.scans
@@ -220,32 +145,15 @@ batch_more w reads got more a b c are e less g (text, body, ans, count, j) = (
       (subst (λ xs. Goes b text xs (scan_lines w.shape w.mask body) c) (asked_same w reads got e) j),
 )
 
-few_by : (s m n q r : ℕ) → 1 ≤ s → s * q + r ≡ n → n ≤ s * m → q ≤ m
-few_by s m n q r some e f =
-    elim (cases_lt m q) [
-      | inl more ↦
-          let k : s * (m + 1) ≤ s * q = mul-le-mul_left s (omega (arith, more)) in
-          absurd (omega (arith, some, e, f, k))
-      | inr few ↦ few
-    ]
-
 div_few : (s m n : ℕ) → 1 ≤ n → n ≤ s * m → n / s ≤ m
-div_few zero m n some f = absurd (omega (arith, some, f))
-div_few (suc k) m n some f = let p : 1 ≤ suc k = omega arith in few_by (suc k) m n (n / suc k) (n % suc k) p (omega arith) f
+div_few s m n some f = search rules
 
 -- an answer has no more scans than were asked for, and at least one
 pub answer_few : (w : Wanted) (got : ℕ) (text body : List ℕ) → IsAnswer (question w got) text body → length body / size_for w ≤ min MOST_SCANS (w.scans - got)
-answer_few w got text body ans =
-    div_few (size_for w) (min MOST_SCANS (w.scans - got)) (length body) (blocks_some (question w got) ans.blocks body ans.are_blocks) ans.are_blocks.within
-
-some_by : (s n q r : ℕ) → s * q + r ≡ n → r ≡ 0 → 1 ≤ n → 1 ≤ q
-some_by s n zero r e f some = absurd (omega (arith, e, f, some))
-some_by s n (suc q) r e f some = omega arith
+answer_few w got text body ans = search (rules, div_few, blocks_some)
 
 pub answer_some : (w : Wanted) (got : ℕ) (text body : List ℕ) → 1 ≤ size_for w → IsAnswer (question w got) text body → 1 ≤ length body / size_for w
-answer_some w got text body size ans =
-    let s = size_for w in
-    some_by s (length body) (length body / s) (length body % s) (omega (arith, size)) ans.scans (blocks_some (question w got) ans.blocks body ans.are_blocks)
+answer_some w got text body size ans = grind (arith, common_steps)
 
 pub batch_fails : (w : Wanted) (reads : List Read) (got : ℕ) (e : ClientEnd) (a b c : Point) → AreReads w reads → got_by w reads ≡ got → got < w.scans
     → Goes a (heard_of reads) (sent_for w reads) (printed_for w reads) b → Reads w got (Err e) b c → Breaks w e a c
@@ -285,41 +193,4 @@ batch_fails w reads got e a b c are same less g r = by e r
 pub refusal_ends : (w : Wanted) (n : ℕ) (end : ClientEnd) (a : Point) (l : Option (List ℕ)) (p : List ℕ) (s o t : Option (List ℕ))
     → EndsRefused w n [] a (point l p s o) → Refuses end n
     → (end ≡ Refused n → Wrote o (refused_line n) t) → WroteFront o (refused_line n) t → Ends w end a (point l p s t)
-refusal_ends w n end a l p s o t r is whole part = by end is whole
-  where
-    before : List ℕ
-    before = printed_at w r.stage
-
-    old : Wrote a.printed before o
-    old = subst (λ xs. Wrote a.printed xs o) (append-nil before) r.goes.prints
-
-    stop : EndsRefusing w a (point l p s t)
-    stop = record {
-      stage = r.stage;
-      is_stage = r.is_stage;
-      n = n;
-      text = r.text;
-      refused = r.refused;
-      goes = record {
-        hears = heard_front a (point l p s o) (heard_at r.stage ++ r.text) r.goes.hears;
-        sends = all_of a.sent s (sent_at w r.stage) r.goes.sends;
-        prints = wrote_front a.printed o t before (refused_line n) old part;
-      };
-    }
-
-    by : (end : ClientEnd) → Refuses end n → (end ≡ Refused n → Wrote o (refused_line n) t) → Ends w end a (point l p s t)
-    by Done is whole = absurd is
-    by (Refused k) is whole =
-        let same : Refused k ≡ Refused n = ap (λ (m : ℕ). Refused m) is in
-        subst (λ (x : ClientEnd). Ends w x a (point l p s t)) (sym same) (record {
-          stage = r.stage;
-          is_stage = r.is_stage;
-          text = r.text;
-          refused = r.refused;
-          goes = record { hears = r.goes.hears; sends = r.goes.sends; prints = wrote_more a.printed o t before (refused_line n) old (whole same) };
-        })
-    by LinkFault is whole = absurd is
-    by WriteFault is whole = inr stop
-    by Memory is whole = inr stop
-    by Malformed is whole = absurd is
-    by Cut is whole = absurd is
+refusal_ends w n end a l p s o t r is whole part = search (rules, heard_front, all_of, wrote_front, wrote_more)

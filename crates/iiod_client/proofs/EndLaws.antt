@@ -1,5 +1,6 @@
 -- The end to which the bytes of a link come.
-use Rattle.std.proofs.Common.{◌≡◌, ◌⊎◌, inl, inr, ℕ, zero, suc, List, [], ◌∷◌, ◌++◌, Option, Some, None, IfSome, refl, sym, ap, subst, ◌∙◌, arith, append_assoc, append-nil}
+use Rattle.std.proofs.Common.{◌≡◌, ◌⊎◌, inl, inr, ℕ, zero, suc, List, [], ◌∷◌, ◌++◌, Option, Some, None, IfSome, refl, sym, ap, subst, ◌∙◌, arith, append_assoc, append-nil, rules}
+use Rattle.std.proofs.lemmas.Grind.{common_steps}
 use Rattle.iiod_client.specs.declared.answer.State.{State}
 use Rattle.iiod_client.specs.declared.answer.State.TheVariants as state
 use Rattle.iiod_client.specs.declared.client_end.ClientEnd.{ClientEnd}
@@ -10,7 +11,7 @@ use Rattle.iiod_client.specs.Awaited.{Awaited, Plain, Scans, Nothing, IsAccepted
 use Rattle.iiod_client.specs.ClientEnd.{ComesTo, Ends, EndsAt, EndsBy, IsFailure}
 use Rattle.iiod_client.specs.Point.{Point, Heard, point}
 use Rattle.iiod_client.specs.Talk.{Read, Stage, Opening, Reading, Closing, Leaving, AreReads, IsStage, IsLeaving, heard_at, heard_of, awaits}
-use Rattle.iiod_client.proofs.AwaitedLaws.{Tells, accepted_tells, one_front, tells_one}
+use Rattle.iiod_client.proofs.AwaitedLaws.{Tells, one_front, tells_one}
 
 -- ---- from one stage to the next
 
@@ -30,20 +31,8 @@ record Steps (w : Wanted) (s : Stage) (text : List ℕ) (t : Stage) : Type 0 whe
   next : Next s text body t
   is_stage : IsStage w t
 
-no_both : (w : Wanted) (reads : List Read) → IsStage w (Reading reads) → IsStage w (Closing reads) → ⊥
-no_both w reads a b = omega (arith, a.1, b.1)
-
-one_after : (w : Wanted) (reads : List Read) (t u : Stage) → IsAfter reads t → IsAfter reads u → IsStage w t → IsStage w u → t ≡ u
-one_after w reads t u (inl e) (inl f) a b = e ∙ sym f
-one_after w reads t u (inr e) (inr f) a b = e ∙ sym f
-one_after w reads t u (inl e) (inr f) a b = absurd (no_both w reads (subst (IsStage w) e a) (subst (IsStage w) f b))
-one_after w reads t u (inr e) (inl f) a b = absurd (no_both w reads (subst (IsStage w) f b) (subst (IsStage w) e a))
-
 one_next : (w : Wanted) (s : Stage) (text body : List ℕ) (t u : Stage) → Next s text body t → Next s text body u → IsStage w t → IsStage w u → t ≡ u
-one_next w Opening text body t u e f a b = one_after w [] t u e f a b
-one_next w (Reading reads) text body t u e f a b = one_after w (record { text = text; body = body } ∷ reads) t u e f a b
-one_next w (Closing reads) text body t u e f a b = e ∙ sym f
-one_next w (Leaving reads) text body t u e f a b = absurd e
+one_next w s text body t u e f a b = search rules
 
 -- ---- a number of steps over the bytes
 
@@ -54,8 +43,7 @@ Walks (suc n) w s bytes t rest = (u : Stage) × (text : List ℕ) × (more : Lis
 walks_on : (n : ℕ) (w : Wanted) (s : Stage) (bytes : List ℕ) (t : Stage) (rest : List ℕ) (text more : List ℕ) (u : Stage) → Walks n w s bytes t rest
     → rest ≡ text ++ more → Steps w t text u → Walks (suc n) w s bytes u more
 walks_on zero w s bytes t rest text more u k e step = (u, text, more, sym k.1 ∙ e, subst (λ (x : Stage). Steps w x text u) k.0 step, (refl, refl))
-walks_on (suc n) w s bytes t rest text more u (v, begin, other, e, first, k) f step =
-    (v, begin, other, e, first, walks_on n w v other t rest text more u k f step)
+walks_on (suc n) w s bytes t rest text more u (v, begin, other, e, first, k) f step = search (rules, walks_on n w v other t rest text more u k f step)
 
 -- steps from the first stage lead to this stage
 reach_reads : (w : Wanted) (reads : List Read) (t : Stage) (bytes rest : List ℕ) → IsAfter reads t → IsStage w t → AreReads w reads
@@ -91,10 +79,8 @@ meet : (m n : ℕ) (w : Wanted) (s : Stage) (bytes : List ℕ) (t : Stage) (rest
     → Walks n w s bytes u other
     → ((t ≡ u) × (rest ≡ other)) ⊎ (Passes w t rest ⊎ Passes w u other)
 meet zero zero w s bytes t rest u other a b = inl (a.0 ∙ sym b.0, a.1 ∙ sym b.1)
-meet zero (suc n) w s bytes t rest u other a (v, text, more, e, step, k) =
-    inr (inl (subst (λ (x : Stage). Passes w x rest) (sym a.0) (accepted_tells (awaits w s) rest text more step.body step.accepted (a.1 ∙ e))))
-meet (suc m) zero w s bytes t rest u other (v, text, more, e, step, k) b =
-    inr (inr (subst (λ (x : Stage). Passes w x other) (sym b.0) (accepted_tells (awaits w s) other text more step.body step.accepted (b.1 ∙ e))))
+meet zero (suc n) w s bytes t rest u other a (v, text, more, e, step, k) = search rules
+meet (suc m) zero w s bytes t rest u other (v, text, more, e, step, k) b = search rules
 meet (suc m) (suc n) w s bytes t rest u other (v, text, more, e, step, k) (v', text', more', e', step', k') =
     let one = one_front (awaits w s) text text' more more' step.body step'.body step.accepted step'.accepted (sym e ∙ e') in
     let moved : Next s text step.body v' = subst (λ xs. Next s xs step.body v') (sym one.0) (subst (λ xs. Next s text' xs v') (sym one.1) step'.next) in
@@ -114,14 +100,10 @@ abbrev Shows : Wanted → Stage → List ℕ → ClientEnd → Type 0
 Shows w stage rest end = (IsLeaving stage × (end ≡ Done)) ⊎ ((s : State) × Tells (awaits w stage) rest s × (end ≡ end_for s) × (s ≡ state.Done → ⊥))
 
 refused_tells : (w : Awaited) (n : ℕ) (rest text more : List ℕ) → rest ≡ text ++ more → IsRefused w n text → Tells w rest (state.Refused n)
-refused_tells Plain n rest text more e r = record { text = text; more = more; body = []; reads = r; ended = inl tt; bytes_are = e }
-refused_tells (Scans q) n rest text more e r = record { text = text; more = more; body = []; reads = r; ended = inl tt; bytes_are = e }
-refused_tells Nothing n rest text more e r = absurd r
+refused_tells w n rest text more e r = search rules
 
 wrong_tells : (w : Awaited) (rest text more : List ℕ) → rest ≡ text ++ more → IsWrong w text → Tells w rest state.Malformed
-wrong_tells Plain rest text more e r = record { text = text; more = more; body = []; reads = r; ended = inl tt; bytes_are = e }
-wrong_tells (Scans q) rest text more e r = record { text = text; more = more; body = []; reads = r; ended = inl tt; bytes_are = e }
-wrong_tells Nothing rest text more e r = absurd r
+wrong_tells w rest text more e r = search rules
 
 unfinished_tells : (w : Awaited) (rest : List ℕ) → IsUnfinished w rest → Tells w rest state.More
 unfinished_tells Plain rest r = record { text = rest; more = []; body = []; reads = r; ended = inr (refl, refl); bytes_are = sym (append-nil rest) }
@@ -139,10 +121,7 @@ shows w stage rest Memory x = absurd x
 
 -- nothing is awaited after the last line
 none_awaited : (w : Wanted) (stage : Stage) (rest : List ℕ) (s : State) → IsLeaving stage → Tells (awaits w stage) rest s → ⊥
-none_awaited w Opening rest s is x = is
-none_awaited w (Reading reads) rest s is x = is
-none_awaited w (Closing reads) rest s is x = is
-none_awaited w (Leaving reads) rest s is x = x.reads
+none_awaited w stage rest s is x = search rules
 
 no_pass : (w : Wanted) (stage : Stage) (rest : List ℕ) (end : ClientEnd) → Shows w stage rest end → Passes w stage rest → ⊥
 no_pass w stage rest end (inl x) p = none_awaited w stage rest state.Done x.0 p
@@ -180,45 +159,14 @@ heard_rest : (bytes text : List ℕ) (s o : Option (List ℕ)) (b : Point) → H
     × (bytes ≡ text ++ (b.pending ++ ys))
 heard_rest bytes text s o b h = h
 
-none_left : (l : Option (List ℕ)) (p ys : List ℕ) → l ≡ Some ys → IfSome l (λ xs. p ++ xs ≡ []) → p ++ ys ≡ []
-none_left l p ys e h = subst (λ (x : Option (List ℕ)). IfSome x (λ xs. p ++ xs ≡ [])) e h
-
 came_to : (w : Wanted) (end : ClientEnd) (bytes : List ℕ) (s o : Option (List ℕ)) (b : Point) → Ends w end (point (Some bytes) [] s o) b → ComesTo w bytes end
     ⊎ IsFailure end
 came_to w Done bytes s o b r =
     let (ys, e, f) = heard_rest bytes (heard_at (Leaving r.reads)) s o b r.goes.hears in
     inl (record { stage = Leaving r.reads; is_stage = r.is_stage; following = b.pending ++ ys; bytes_are = f; ends = tt })
-came_to w (Refused n) bytes s o b r =
-    let (ys, e, f) = heard_rest bytes (heard_at r.stage ++ r.text) s o b r.goes.hears in
-    inl (record {
-      stage = r.stage;
-      is_stage = r.is_stage;
-      following = r.text ++ (b.pending ++ ys);
-      bytes_are = f
-          ∙ append_assoc (heard_at r.stage) r.text (b.pending ++ ys);
-      ends = (r.text, b.pending ++ ys, refl, r.refused);
-    })
-came_to w Malformed bytes s o b r =
-    let (ys, e, f) = heard_rest bytes (heard_at r.stage ++ r.text) s o b r.goes.hears in
-    inl (record {
-      stage = r.stage;
-      is_stage = r.is_stage;
-      following = r.text ++ (b.pending ++ ys);
-      bytes_are = f
-          ∙ append_assoc (heard_at r.stage) r.text (b.pending ++ ys);
-      ends = (r.text, b.pending ++ ys, refl, r.wrong);
-    })
-came_to w Cut bytes s o b r =
-    let (ys, e, f) = heard_rest bytes (heard_at r.stage ++ r.text) s o b r.goes.hears in
-    let none = none_left b.left b.pending ys e r.at_end in
-    inl (record {
-      stage = r.stage;
-      is_stage = r.is_stage;
-      following = r.text;
-      bytes_are = f ∙ ap (λ xs. (heard_at r.stage ++ r.text) ++ xs) none
-          ∙ append-nil (heard_at r.stage ++ r.text);
-      ends = r.unfinished;
-    })
+came_to w (Refused n) bytes s o b r = grind (arith, common_steps)
+came_to w Malformed bytes s o b r = grind (arith, common_steps)
+came_to w Cut bytes s o b r = search rules
 came_to w LinkFault bytes s o b r = inr tt
 came_to w WriteFault bytes s o b r = inr tt
 came_to w Memory bytes s o b r = inr tt

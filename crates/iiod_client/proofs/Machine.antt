@@ -1,124 +1,22 @@
 -- One reading of a text: a machine that takes a byte at a time, and where each part of the grammar leads it. It is cited by
 -- the law `one_reading` alone.
-use Rattle.std.proofs.Common.{◌≡◌, ◌≢◌, ◌⊎◌, inl, inr, ℕ, zero, suc, ◌+◌, ◌-◌, ◌<◌, ◌≤◌, List, [], ◌∷◌, ◌++◌, length, Option, Some, None, ◌%◌, refl, sym, ap, subst, ◌∙◌, arith, append_assoc, append-nil, length-append}
+use Rattle.std.proofs.Common.{◌≡◌, ◌≢◌, ◌⊎◌, inl, inr, ℕ, zero, suc, ◌+◌, ◌-◌, ◌<◌, ◌≤◌, List, [], ◌∷◌, ◌++◌, length, Option, Some, None, ◌%◌, refl, sym, ap, subst, ◌∙◌, arith, append_assoc, append-nil, length-append, rules}
+use Rattle.std.proofs.lemmas.Grind.{common_steps}
 use Rattle.std.specs.List.{AllByRecursion, flat_map}
-use Rattle.std.specs.Prelude.{◌==◌, ◌&&◌, nat_le}
+use Rattle.std.specs.Prelude.{◌==◌}
 use Rattle.std.proofs.lemmas.Bool.{cases_Bool, cases_lt, eqb-true, eqb-false}
-use Rattle.iio_text.specs.Numbers.{number_of}
 use Rattle.iio_mask.specs.Text.{IsMaskText}
 use Rattle.iiod_client.specs.declared.answer.State.{State}
 use Rattle.iiod_client.specs.declared.answer.State.TheVariants as state
 use Rattle.iiod_client.specs.declared.answer.Place.{Place}
 use Rattle.iiod_client.specs.declared.answer.Place.TheVariants.{Length, Mask, Data, Done, Refused, Malformed}
-use Rattle.iiod_client.specs.Line.{line_text, HasNoLf, IsBegunLine, zero_line, refusal_of}
+use Rattle.iiod_client.specs.Line.{line_text, HasNoLf, IsBegunLine, zero_line}
 use Rattle.iiod_client.specs.Answer.{Asked, Block, IsBlock, AreBlocks, Begins, IsAnswer, IsRefusal, IsMalformed, IsBeforeLine, block_text}
 use Rattle.iiod_client.specs.Standing.{IsPartial, Reads, IsEnd, OneReading, reading_of, told_body}
 use Rattle.iiod_client.specs.Steps.{AfterLength, AfterMask, AfterBlock}
 use Rattle.iiod_client.proofs.Stands.{blocks_some}
 
 -- ---- a line has one meaning
-
-number_no_refusal : (line : List ℕ) (n k : ℕ) → number_of line ≡ Some n → refusal_of line ≡ Some k → ⊥
-number_no_refusal [] n k e f = absurd cc
-number_no_refusal (b ∷ bs) n k e f =
-    elim (cases_Bool (b == 45)) [
-      | inl minus ↦
-          let is : b ≡ 45 = eqb-true b 45 minus in
-          let at = subst (λ x. number_of (x ∷ bs) ≡ Some n) is e in
-          none bs n at
-      | inr other ↦ let g = rw other at f in absurd cc
-    ]
-  where
-    none : (bs : List ℕ) (n : ℕ) → number_of (45 ∷ bs) ≡ Some n → ⊥
-    none bs n e = elim (cases_Bool (nat_le 1 (length (45 ∷ bs)) && nat_le (length (45 ∷ bs)) 10)) [
-      | inl t ↦ let g = rw t at e in absurd cc
-      | inr t ↦ let g = rw t at e in absurd cc
-    ]
-
--- a line in the place of a length line does one thing: of two that it may do, the one that stands first below is the other's
-zero_length : (line : List ℕ) (n : ℕ) → number_of line ≡ Some n → 1 ≤ n → line ≡ zero_line → ⊥
-zero_length line n e some f =
-    let g : number_of zero_line ≡ Some n = subst (λ xs. number_of xs ≡ Some n) f e in
-    let same : 0 ≡ n = cc in
-    omega (arith, some, same)
-
-pub zero_refusal : (line : List ℕ) (n : ℕ) → refusal_of line ≡ Some n → line ≡ zero_line → ⊥
-zero_refusal line n e f =
-    let g : refusal_of zero_line ≡ Some n = subst (λ xs. refusal_of xs ≡ Some n) f e in cc
-
-det_length : (q : Asked) (body line : List ℕ) (p r : Place) → AfterLength q body line p → AfterLength q body line r → p ≡ r
-det_length q body line Length r a b = absurd a
-det_length q body line (Mask n) Length a b = absurd b
-det_length q body line (Mask n) (Mask k) a b = let e : number_of line ≡ Some n = a.0 in let f : number_of line ≡ Some k = b.0 in cc
-det_length q body line (Mask n) (Data k) a b = absurd (omega (arith, b.3, ap length a.3))
-det_length q body line (Mask n) Done a b = absurd (omega (arith, b.1, ap length a.3))
-det_length q body line (Mask n) (Refused k) a b = absurd (number_no_refusal line n k a.0 b.0)
-det_length q body line (Mask n) Malformed a b = absurd (b.no_length n a.0 a.1 (omega (arith, a.2, ap length a.3)))
-det_length q body line (Data n) Length a b = absurd b
-det_length q body line (Data n) (Mask k) a b = absurd (omega (arith, a.3, ap length b.3))
-det_length q body line (Data n) (Data k) a b = let e : number_of line ≡ Some n = a.0 in let f : number_of line ≡ Some k = b.0 in cc
-det_length q body line (Data n) Done a b = absurd (zero_length line n a.0 a.1 b.0)
-det_length q body line (Data n) (Refused k) a b = absurd (number_no_refusal line n k a.0 b.0)
-det_length q body line (Data n) Malformed a b = absurd (b.no_length n a.0 a.1 a.2)
-det_length q body line Done Length a b = absurd b
-det_length q body line Done (Mask k) a b = absurd (omega (arith, a.1, ap length b.3))
-det_length q body line Done (Data k) a b = absurd (zero_length line k b.0 b.1 a.0)
-det_length q body line Done Done a b = refl
-det_length q body line Done (Refused k) a b = absurd (zero_refusal line k b.0 a.0)
-det_length q body line Done Malformed a b = absurd (b.no_closing a.0 a.1 a.2)
-det_length q body line (Refused n) Length a b = absurd b
-det_length q body line (Refused n) (Mask k) a b = absurd (number_no_refusal line k n b.0 a.0)
-det_length q body line (Refused n) (Data k) a b = absurd (number_no_refusal line k n b.0 a.0)
-det_length q body line (Refused n) Done a b = absurd (zero_refusal line n a.0 b.0)
-det_length q body line (Refused n) (Refused k) a b = let e : refusal_of line ≡ Some n = a.0 in let f : refusal_of line ≡ Some k = b.0 in cc
-det_length q body line (Refused n) Malformed a b = absurd (b.no_refusal n a.0 a.1)
-det_length q body line Malformed Length a b = absurd b
-det_length q body line Malformed (Mask k) a b = absurd (a.no_length k b.0 b.1 (omega (arith, b.2, ap length b.3)))
-det_length q body line Malformed (Data k) a b = absurd (a.no_length k b.0 b.1 b.2)
-det_length q body line Malformed Done a b = absurd (a.no_closing b.0 b.1 b.2)
-det_length q body line Malformed (Refused k) a b = absurd (a.no_refusal k b.0 b.1)
-det_length q body line Malformed Malformed a b = refl
-
-det_mask : (q : Asked) (n : ℕ) (line : List ℕ) (p r : Place) → AfterMask q n line p → AfterMask q n line r → p ≡ r
-det_mask q n line (Data k) (Data j) a b = ap (λ (m : ℕ). Data m) (a.0 ∙ sym b.0)
-det_mask q n line (Data k) Malformed a b = absurd (b a.1)
-det_mask q n line Malformed (Data k) a b = absurd (a b.1)
-det_mask q n line Malformed Malformed a b = refl
-det_mask q n line (Data k) Length a b = absurd b
-det_mask q n line (Data k) (Mask j) a b = absurd b
-det_mask q n line (Data k) Done a b = absurd b
-det_mask q n line (Data k) (Refused j) a b = absurd b
-det_mask q n line Malformed Length a b = absurd b
-det_mask q n line Malformed (Mask j) a b = absurd b
-det_mask q n line Malformed Done a b = absurd b
-det_mask q n line Malformed (Refused j) a b = absurd b
-det_mask q n line Length r a b = absurd a
-det_mask q n line (Mask k) r a b = absurd a
-det_mask q n line Done r a b = absurd a
-det_mask q n line (Refused k) r a b = absurd a
-
-det_block : (q : Asked) (body : List ℕ) (p r : Place) → AfterBlock q body p → AfterBlock q body r → p ≡ r
-det_block q body Length Length a b = refl
-det_block q body Length Done a b = absurd (omega (arith, a, b.0))
-det_block q body Length Malformed a b = absurd (omega (arith, a, b.0))
-det_block q body Length (Mask n) a b = absurd b
-det_block q body Length (Data n) a b = absurd b
-det_block q body Length (Refused n) a b = absurd b
-det_block q body Done Length a b = absurd (omega (arith, a.0, b))
-det_block q body Done Done a b = refl
-det_block q body Done Malformed a b = absurd (b.1 a.1)
-det_block q body Done (Mask n) a b = absurd b
-det_block q body Done (Data n) a b = absurd b
-det_block q body Done (Refused n) a b = absurd b
-det_block q body Malformed Length a b = absurd (omega (arith, a.0, b))
-det_block q body Malformed Done a b = absurd (a.1 b.1)
-det_block q body Malformed Malformed a b = refl
-det_block q body Malformed (Mask n) a b = absurd b
-det_block q body Malformed (Data n) a b = absurd b
-det_block q body Malformed (Refused n) a b = absurd b
-det_block q body (Mask n) r a b = absurd a
-det_block q body (Data n) r a b = absurd a
-det_block q body (Refused n) r a b = absurd a
 
 -- ---- the machine
 
@@ -154,32 +52,8 @@ abbrev Runs : Asked → M → List ℕ → M → Type 0
 Runs q m [] x = x ≡ m
 Runs q m (b ∷ bs) x = (y : M) × Step q m b y × Runs q y bs x
 
-det_line : (line body : List ℕ) (After : Place → Type 0) (at : Place) (b : ℕ) (x y : M) → ((p r : Place) → After p → After r → p ≡ r)
-    → LineStep line body After at b x → LineStep line body After at b y → x ≡ y
-det_line line body After at b x y det (inl (e, p, a, f)) (inl (g, r, c, h)) = f ∙ ap (λ (k : Place). At k [] body) (det p r a c) ∙ sym h
-det_line line body After at b x y det (inl (e, p, a, f)) (inr (inl (g, h, j))) = absurd (g e)
-det_line line body After at b x y det (inl (e, p, a, f)) (inr (inr (g, h, j))) = absurd (g e)
-det_line line body After at b x y det (inr (inl (g, h, j))) (inl (e, p, a, f)) = absurd (g e)
-det_line line body After at b x y det (inr (inr (g, h, j))) (inl (e, p, a, f)) = absurd (g e)
-det_line line body After at b x y det (inr (inl (g, h, j))) (inr (inl (k, l, m))) = j ∙ sym m
-det_line line body After at b x y det (inr (inl (g, h, j))) (inr (inr (k, l, m))) = absurd (omega (arith, h, l))
-det_line line body After at b x y det (inr (inr (g, h, j))) (inr (inl (k, l, m))) = absurd (omega (arith, h, l))
-det_line line body After at b x y det (inr (inr (g, h, j))) (inr (inr (k, l, m))) = j ∙ sym m
-
-det_data : (q : Asked) (n : ℕ) (body : List ℕ) (b : ℕ) (x y : M) → DataStep q n body b x → DataStep q n body b y → x ≡ y
-det_data q n body b x y (inl (g, h)) (inl (k, l)) = h ∙ sym l
-det_data q n body b x y (inl (g, h)) (inr (k, p, a, l)) = absurd (omega (arith, g, k))
-det_data q n body b x y (inr (k, p, a, l)) (inl (g, h)) = absurd (omega (arith, g, k))
-det_data q n body b x y (inr (g, p, a, h)) (inr (k, r, c, l)) = h ∙ ap (λ (z : Place). At z [] (body ++ b ∷ [])) (det_block q (body ++ b ∷ []) p r a c) ∙ sym l
-
 det_step : (q : Asked) (m : M) (b : ℕ) (x y : M) → Step q m b x → Step q m b y → x ≡ y
-det_step q (At Length line body) b x y s t = det_line line body (AfterLength q body line) Length b x y (det_length q body line) s t
-det_step q (At (Mask n) line body) b x y s t = det_line line body (AfterMask q n line) (Mask n) b x y (det_mask q n line) s t
-det_step q (At (Data n) line body) b x y s t = det_data q n body b x y s t
-det_step q (At Done line body) b x y s t = s ∙ sym t
-det_step q (At (Refused n) line body) b x y s t = s ∙ sym t
-det_step q (At Malformed line body) b x y s t = s ∙ sym t
-det_step q Beyond b x y s t = s ∙ sym t
+det_step q m b x y s t = search rules
 
 det_runs : (q : Asked) (m : M) (text : List ℕ) (x y : M) → Runs q m text x → Runs q m text y → x ≡ y
 det_runs q m [] x y s t = s ∙ sym t
@@ -209,11 +83,7 @@ run_line : (q : Asked) (After : Place → Type 0) (at : Place) (line body xs : L
     → Runs q (At at line body) xs (At at (line ++ xs) body)
 run_line q After at line body [] step lf few = ap (λ (l : List ℕ). At at l body) (append-nil line)
 run_line q After at line body (b ∷ bs) step lf few =
-    let more = run_line q After at (line ++ b ∷ []) body bs step lf.1 (omega (arith, few, length-append line (b ∷ []))) in (
-      At at (line ++ b ∷ []) body,
-      step line b lf.0 (omega (arith, few)),
-      subst (λ (l : List ℕ). Runs q (At at (line ++ b ∷ []) body) bs (At at l body)) (append_assoc line (b ∷ []) bs) more,
-    )
+    grind (arith, common_steps, run_line q After at (line ++ b ∷ []) body bs step lf.1 (omega (arith, few, length-append line (b ∷ []))))
 
 length_go : (q : Asked) (body l : List ℕ) (b : ℕ) → b ≢ 10 → length l < 32 → StepAt q Length l body b (At Length (l ++ b ∷ []) body)
 length_go q body l b other room = inr (inl (other, room, refl))
@@ -267,22 +137,13 @@ run_block q b body p is some fits a =
 run_later : (q : Asked) (later : List Block) (body : List ℕ) (p : Place) → AllByRecursion IsBlock later → length body < q.bytes → 1 ≤ length body
     → length (body ++ all_bytes later) ≤ q.bytes → AfterBlock q (body ++ all_bytes later) p
     → Runs q (At Length [] body) (flat_map block_text later) (At p [] (body ++ all_bytes later))
-run_later q [] body p are short some fits a =
-    let e = append-nil body in
-    let same = det_block q body p Length (subst (λ xs. AfterBlock q xs p) e a) short in
-    ap (λ (xs : List ℕ). At p [] xs) e ∙ ap (λ (k : Place). At k [] body) same
-run_later q (b ∷ []) body p are short some fits a =
-    let e : b.bytes ++ [] ≡ b.bytes = append-nil b.bytes in
-    let fit : length body + length b.bytes ≤ q.bytes = omega (arith, fits, ap length e, length-append body (b.bytes ++ [])) in
-    subst (λ (xs : List ℕ). Runs q (At Length [] body) xs (At p [] (body ++ (b.bytes ++ [])))) (sym (append-nil (block_text b)))
-    (subst (λ (xs : List ℕ). Runs q (At Length [] body) (block_text b) (At p [] (body ++ xs))) (sym e)
-    (run_block q b body p are.0 some fit (subst (λ xs. AfterBlock q (body ++ xs) p) e a)))
+run_later q [] body p are short some fits a = search rules
+run_later q (b ∷ []) body p are short some fits a = grind (arith, common_steps, run_block)
 run_later q (b ∷ c ∷ cs) body p are short some fits a =
     let next = body ++ b.bytes in
     let rest = all_bytes (c ∷ cs) in
     let all = append_assoc body b.bytes rest in
-    let sizes : length body + length b.bytes + length (all_bytes (c ∷ cs)) ≤ q.bytes =
-    omega (arith, fits, ap length all, length-append body b.bytes, length-append (body ++ b.bytes) rest) in
+    let sizes : length body + length b.bytes + length (all_bytes (c ∷ cs)) ≤ q.bytes = grind (arith, common_steps) in
     let more : 1 ≤ length rest = omega (arith, are.1.0.some, length-append c.bytes (all_bytes cs)) in
     let less : length next < q.bytes = omega (arith, sizes, more, length-append body b.bytes) in
     let one = run_block q b body Length are.0 some (omega (arith, sizes)) less in
@@ -313,28 +174,21 @@ run_blocks q text body p b a =
         → AfterBlock q (b.first.bytes ++ all_bytes later) p
         → Runs q start (line_text b.first.line ++ (line_text b.mask ++ (b.first.bytes ++ flat_map block_text later)))
         (At p [] (b.first.bytes ++ all_bytes later))
-    by [] are fits c =
-        let e = append-nil b.first.bytes in
-        subst (λ (xs : List ℕ). Runs q start (line_text b.first.line ++ (line_text b.mask ++ xs)) (At p [] xs)) (sym e)
-        (run_first q b.first b.mask p b.is_first b.is_mask_line b.is_mask (omega (arith, fits, ap length e)) (subst (λ xs. AfterBlock q xs p) e c))
+    by [] are fits c = search (rules, run_first)
     by (d ∷ ds) are fits c =
         let rest = all_bytes (d ∷ ds) in
         let more : 1 ≤ length rest = omega (arith, are.0.some, length-append d.bytes (all_bytes ds)) in
         let less : length b.first.bytes < q.bytes = omega (arith, fits, more, length-append b.first.bytes rest) in
         let text = flat_map block_text (d ∷ ds) in
         let spelled : (line_text b.first.line ++ (line_text b.mask ++ b.first.bytes)) ++ text ≡ line_text b.first.line
-        ++ (line_text b.mask ++ (b.first.bytes ++ text)) =
-        append_assoc (line_text b.first.line) (line_text b.mask ++ b.first.bytes) text
-        ∙ ap (λ xs. line_text b.first.line ++ xs) (append_assoc (line_text b.mask) b.first.bytes text) in
+        ++ (line_text b.mask ++ (b.first.bytes ++ text)) = grind (arith, common_steps) in
         subst (λ (xs : List ℕ). Runs q start xs (At p [] (b.first.bytes ++ rest))) spelled
         (runs_on q start (line_text b.first.line ++ (line_text b.mask ++ b.first.bytes)) text (At Length [] b.first.bytes) (At p [] (b.first.bytes ++ rest))
         (run_first q b.first b.mask Length b.is_first b.is_mask_line b.is_mask (omega (arith, less)) less)
         (run_later q (d ∷ ds) b.first.bytes p are less b.is_first.some fits c))
 
 run_begins : (q : Asked) (text body : List ℕ) → Begins q text body → length body < q.bytes → Runs q start text (At Length [] body)
-run_begins q text body (inl none) short =
-    subst (λ (xs : List ℕ). Runs q start xs (At Length [] body)) (sym none.0) (ap (λ (xs : List ℕ). At Length [] xs) none.1)
-run_begins q text body (inr b) short = run_blocks q text body Length b short
+run_begins q text body h1 short = search (rules, run_blocks)
 
 -- ---- whole texts
 
@@ -428,19 +282,9 @@ says Beyond = None
 abbrev told : State → List ℕ → Option (State × List ℕ)
 told s k = Some (s, k)
 
-abbrev state_in : Option (State × List ℕ) → State
-state_in None = state.Malformed
-state_in (Some p) = p.0
-
 -- nothing comes after an end
 end_step : (q : Asked) (x u : M) (b : ℕ) (s : State) (k : List ℕ) → says x ≡ told s k → IsEnd s → Step q x b u → u ≡ Beyond
-end_step q (At Length line body) u b s k e is step = let same : state.More ≡ s = ap state_in e in absurd (subst IsEnd (sym same) is)
-end_step q (At (Mask n) line body) u b s k e is step = let same : state.More ≡ s = ap state_in e in absurd (subst IsEnd (sym same) is)
-end_step q (At (Data n) line body) u b s k e is step = let same : state.More ≡ s = ap state_in e in absurd (subst IsEnd (sym same) is)
-end_step q (At Done line body) u b s k e is step = step
-end_step q (At (Refused n) line body) u b s k e is step = step
-end_step q (At Malformed line body) u b s k e is step = step
-end_step q Beyond u b s k e is step = absurd cc
+end_step q x u b s k e is step = search rules
 
 block_some : (q : Asked) (body : List ℕ) → length body ≤ q.bytes → (p : Place) × AfterBlock q body p
 block_some q body fits =
@@ -456,15 +300,7 @@ block_some q body fits =
 
 -- if one more byte leads somewhere, the answer hasn't ended
 alive : (q : Asked) (x : M) (b : ℕ) (bs : List ℕ) (p : Place) (body : List ℕ) → Runs q x (b ∷ bs) (At p [] body) → says x ≡ told state.More []
-alive q (At Length line heard) b bs p body r = refl
-alive q (At (Mask n) line heard) b bs p body r = refl
-alive q (At (Data n) line heard) b bs p body r = refl
-alive q (At Done line heard) b bs p body (u, s, r) = let e = runs_beyond q bs (At p [] body) (subst (λ (z : M). Runs q z bs (At p [] body)) s r) in absurd cc
-alive q (At (Refused n) line heard) b bs p body (u, s, r) =
-    let e = runs_beyond q bs (At p [] body) (subst (λ (z : M). Runs q z bs (At p [] body)) s r) in absurd cc
-alive q (At Malformed line heard) b bs p body (u, s, r) =
-    let e = runs_beyond q bs (At p [] body) (subst (λ (z : M). Runs q z bs (At p [] body)) s r) in absurd cc
-alive q Beyond b bs p body (u, s, r) = let e = runs_beyond q bs (At p [] body) (subst (λ (z : M). Runs q z bs (At p [] body)) s r) in absurd cc
+alive q x b bs p body r = search (rules, runs_beyond)
 
 some_zeros : (n : ℕ) → (zs : List ℕ) × (length zs ≡ n)
 some_zeros zero = ([], refl)
@@ -504,10 +340,7 @@ run_reads q state.Malformed text body r = let (b, k) = run_malformed q text r in
 behind : (q : Asked) (x y : M) (more : List ℕ) (s t : State) (k j : List ℕ) → says x ≡ told s k → IsEnd s → says y ≡ told t j → Runs q x more y → (more ≡ [])
     × (told t j ≡ told s k)
 behind q x y [] s t k j e is f r = (refl, sym f ∙ ap says r ∙ e)
-behind q x y (b ∷ bs) s t k j e is f (u, step, r) =
-    let over = runs_beyond q bs y (subst (λ (z : M). Runs q z bs y) (end_step q x u b s k e is step) r) in
-    let none : None ≡ told t j = sym (ap says over) ∙ f in
-    absurd cc
+behind q x y (b ∷ bs) s t k j e is f (u, step, r) = search (rules, runs_beyond, end_step)
 
 pub one_reading : OneReading
 one_reading q s t text more body other is r1 r2 =

@@ -1,12 +1,7 @@
 -- Printed lines with one more part.
-use Rattle.std.proofs.Common.{◌≡◌, ℕ, zero, suc, ◌+◌, ◌-◌, ◌<◌, ◌≤◌, ◌*◌, take, drop, length, get_or, Bool, true, false, cond, List, [], ◌∷◌, ◌++◌, refl, sym, ap, ◌∙◌, arith, append_assoc, append-nil, add-one}
-use Rattle.std.proofs.lemmas.List.Elements.{filter-append}
-use Rattle.std.proofs.lemmas.Grind.{flat_map-append}
-use Rattle.std.specs.List.{filter, flat_map, range_with_len}
-use Rattle.std.specs.Prelude.{slice_index, ◌/◌, ◌%◌}
+use Rattle.std.proofs.Common.{◌≡◌, ℕ, zero, suc, ◌+◌, ◌-◌, ◌≤◌, ◌*◌, take, drop, List, [], ◌∷◌, ◌++◌, sym, ap, ◌∙◌, arith, append_assoc, rules}
+use Rattle.std.proofs.lemmas.Grind.{common_steps}
 use Rattle.std.specs.Fmt.{signed_decimal}
-use Rattle.std.proofs.lemmas.List.{take_more}
-use Rattle.hex.specs.Hex.{encode_with, encode_lower, lower_digits}
 use Rattle.iio_scan_type.specs.Format.{Format, size_of}
 use Rattle.iio_layout.specs.Layout.{format_at, place_of, scan_size}
 use Rattle.iio_layout.specs.Shape.{ShapeRecord, formats_of}
@@ -15,20 +10,10 @@ use Rattle.iiod_client.specs.Printed.{channel_name, elements_text, field_text, l
 
 -- ---- elements
 
-elements_next : (f : Format) (bytes : List ℕ) (k : ℕ) → 1 ≤ k
-    → elements_text f bytes (suc k) ≡ elements_text f bytes k ++ 44 ∷ signed_decimal (value_at f bytes k)
-elements_next f bytes zero some = absurd (omega (arith, some))
-elements_next f bytes (suc k) some = refl
-
 pub elements_more : (f : Format) (bytes : List ℕ) (k : ℕ) → 1 ≤ k → (before out comma after : List ℕ) → out ≡ before ++ elements_text f bytes k
     → comma ≡ out ++ 44 ∷ []
     → after ≡ comma ++ signed_decimal (value_at f bytes k) → after ≡ before ++ elements_text f bytes (k + 1)
-elements_more f bytes k some before out comma after e g h =
-    let text = elements_text f bytes k in
-    let last = signed_decimal (value_at f bytes k) in
-    let next : suc k ≡ k + 1 = omega arith in
-    h ∙ ap (λ xs. xs ++ last) g ∙ append_assoc out (44 ∷ []) last ∙ ap (λ xs. xs ++ 44 ∷ last) e ∙ append_assoc before text (44 ∷ last)
-    ∙ ap (λ xs. before ++ xs) (sym (elements_next f bytes k some)) ∙ ap (λ n. before ++ elements_text f bytes n) next
+elements_more f bytes k some before out comma after e g h = grind (arith, common_steps)
 
 -- ---- fields
 
@@ -39,29 +24,17 @@ pub field_more : (shape : ShapeRecord) (mask : ℕ) (scan : List ℕ) (c : ℕ) 
     → f ≡ format_at (formats_of shape) c → from ≡ place_of shape mask c → n ≡ size_of f
     → a ≡ before ++ 32 ∷ [] → b ≡ a ++ channel_name shape c → d ≡ b ++ 61 ∷ [] → e ≡ d ++ elements_text f (take n (drop from scan)) f.repeat
     → e ≡ before ++ field_text shape mask scan c
-field_more shape mask scan c f from n before a b d e ef ep en ea eb ed ee =
-    let g = format_at (formats_of shape) c in
-    ee ∙ ap (λ (x : Format). d ++ elements_text x (take n (drop from scan)) x.repeat) ef
-    ∙ ap (λ k. d ++ elements_text g (take k (drop from scan)) g.repeat) (en ∙ ap size_of ef)
-    ∙ ap (λ k. d ++ elements_text g (take (size_of g) (drop k scan)) g.repeat) ep
-    ∙ parts before a b d (channel_name shape c) (elements_text g (take (size_of g) (drop (place_of shape mask c) scan)) g.repeat) ea eb ed
+field_more shape mask scan c f from n before a b d e ef ep en ea eb ed ee = search (rules, parts)
 
 -- ---- lines
 
 pub lines_more : (shape : ShapeRecord) (mask : ℕ) (body : List ℕ) (k size from n : ℕ) → size ≡ scan_size shape mask → from ≡ k * size → n ≡ size
     → lines_below shape mask body k ++ scan_line shape mask (take n (drop from body)) ≡ lines_below shape mask body (k + 1)
-lines_more shape mask body k size from n es ef en =
-    let before = lines_below shape mask body k in
-    let next : suc k ≡ k + 1 = omega arith in
-    ap (λ i. before ++ scan_line shape mask (take i (drop from body))) (en ∙ es)
-    ∙ ap (λ i. before ++ scan_line shape mask (take (scan_size shape mask) (drop i body))) (ef ∙ ap (λ i. k * i) es)
-    ∙ ap (λ i. lines_below shape mask body i) next
+lines_more shape mask body k size from n es ef en = search rules
 
 lines_on : (shape : ShapeRecord) (mask : ℕ) (body : List ℕ) (j d : ℕ) → (rest : List ℕ)
     × (lines_below shape mask body (d + j) ≡ lines_below shape mask body j ++ rest)
-lines_on shape mask body j zero =
-    let same : 0 + j ≡ j = omega arith in
-    ([], ap (λ i. lines_below shape mask body i) same ∙ sym (append-nil (lines_below shape mask body j)))
+lines_on shape mask body j zero = search rules
 lines_on shape mask body j (suc d) =
     let (rest, e) = lines_on shape mask body j d in
     let next : suc d + j ≡ suc (d + j) = omega arith in

@@ -1,7 +1,7 @@
 -- Seats, no two of which are at one device.
-use Rattle.std.proofs.Common.{◌≡◌, ℕ, suc, zero, ◌+◌, ◌<◌, ◌==◌, ◌||◌, nat_lt, Bool, true, false, List, [], ◌∷◌, ◌++◌, length, refl, ap, ◌∙◌, Some, None, arith}
-use Rattle.std.proofs.lemmas.Bool.{eqb-true, lt-ltb, ltb-true}
-use Rattle.std.proofs.lemmas.Bool.Decides.{nat_tests}
+use Rattle.std.proofs.Common.{◌≡◌, ℕ, suc, zero, ◌+◌, ◌<◌, ◌==◌, ◌||◌, nat_lt, Bool, true, false, List, [], ◌∷◌, ◌++◌, length, refl, ap, ◌∙◌, Some, None, arith, rules}
+use Rattle.std.proofs.lemmas.Grind.{common_steps}
+use Rattle.std.proofs.lemmas.Bool.{eqb-true, lt-ltb}
 use Rattle.std.specs.Prelude.{remove, slice_get, slice_set}
 use Rattle.std.specs.List.{position_or_len}
 use Rattle.iiod_commands.specs.Client.{SeatState, are_apart, has_seat, place_of}
@@ -16,8 +16,7 @@ apart_by [] e = tt
 apart_by (s ∷ ss) e = by (has_seat s.dev ss) refl (λ rest. apart_by ss rest)
   where
     by : (b : Bool) → has_seat s.dev ss ≡ b → (are_apart ss ≡ true → AreApart ss) → AreApart (s ∷ ss)
-    by true h more = let n : false ≡ true = rw h at e in cc
-    by false h more = (h, more (rw h at e))
+    by b h more = search rules
 
 pub are_apart_by : (seats : List SeatState) → AreApart seats → are_apart seats ≡ true
 are_apart_by [] a = refl
@@ -37,8 +36,7 @@ has_lt dev (s ∷ ss) h = by (λ more. has_lt dev ss more) (s.dev == dev) refl
   where
     by : (has_seat dev ss ≡ true → position_or_len (λ (x : SeatState). x.dev == dev) ss < length ss) → (b : Bool) → (s.dev == dev) ≡ b
         → position_or_len (λ (x : SeatState). x.dev == dev) (s ∷ ss) < length (s ∷ ss)
-    by rest true e = rw e (omega arith)
-    by rest false e = let n : position_or_len (λ (x : SeatState). x.dev == dev) ss < length ss = rest (rw e at h) in rw e (omega arith)
+    by rest b e = search rules
 
 pub none_has : (dev : ℕ) (seats : List SeatState) → place_of dev seats ≡ None → has_seat dev seats ≡ false
 none_has dev seats e = by (has_seat dev seats) refl
@@ -55,21 +53,10 @@ first_from dev (s ∷ ss) i l e = by (λ j below at. first_from dev ss j below a
   where
     by : ((j : ℕ) → j < length ss → position_or_len (λ (x : SeatState). x.dev == dev) ss ≡ j → IsFirst dev ss j) → (b : Bool) → (s.dev == dev) ≡ b → (i : ℕ)
         → i < length (s ∷ ss) → position_or_len (λ (x : SeatState). x.dev == dev) (s ∷ ss) ≡ i → IsFirst dev (s ∷ ss) i
-    by rest true t zero l e = t
-    by rest true t (suc i) l e = let n : 0 ≡ suc i = rw t at e in absurd (omega arith)
-    by rest false t zero l e = let n : 1 + position_or_len (λ (x : SeatState). x.dev == dev) ss ≡ 0 = rw t at e in absurd (omega arith)
-    by rest false t (suc i) l e =
-        let n : 1 + position_or_len (λ (x : SeatState). x.dev == dev) ss ≡ suc i = rw t at e in (t, rest i (omega arith) (omega arith))
+    by rest b t i l e = search rules
 
 pub place_first : (dev : ℕ) (seats : List SeatState) (i : ℕ) → place_of dev seats ≡ Some i → IsFirst dev seats i
-place_first dev seats i e = by (nat_lt (position_or_len (λ (s : SeatState). s.dev == dev) seats) (length seats)) refl
-  where
-    by : (b : Bool) → nat_lt (position_or_len (λ (s : SeatState). s.dev == dev) seats) (length seats) ≡ b → IsFirst dev seats i
-    by true l =
-        let same : Some (position_or_len (λ (s : SeatState). s.dev == dev) seats) ≡ Some i = rw l at e in
-        let at : position_or_len (λ (s : SeatState). s.dev == dev) seats ≡ i = cc in
-        first_from dev seats i (let less : position_or_len (λ (s : SeatState). s.dev == dev) seats < length seats = ltb-true _ _ l in omega arith) at
-    by false l = let n : None ≡ Some i = rw l at e in cc
+place_first dev seats i e = search (rules, first_from)
 
 -- it is at that device
 first_is : (dev : ℕ) (seats : List SeatState) (i : ℕ) (s : SeatState) → IsFirst dev seats i → slice_get seats i ≡ Some s → s.dev ≡ dev
@@ -87,35 +74,24 @@ has_last dev [] s h n = rw n refl
 has_last dev (x ∷ xs) s h n = by (λ none. has_last dev xs s none n) (x.dev == dev) refl
   where
     by : (has_seat dev xs ≡ false → has_seat dev (xs ++ s ∷ []) ≡ false) → (b : Bool) → (x.dev == dev) ≡ b → has_seat dev ((x ∷ xs) ++ s ∷ []) ≡ false
-    by rest true e = let c : true ≡ false = rw e at h in cc
-    by rest false e = rw e (rest (rw e at h))
-
-turned : (a b : ℕ) → (a == b) ≡ false → (b == a) ≡ false
-turned a b e = grind (arith, nat_tests)
+    by rest b e = search rules
 
 pub apart_last : (seats : List SeatState) (s : SeatState) → AreApart seats → has_seat s.dev seats ≡ false → AreApart (seats ++ s ∷ [])
 apart_last [] s a h = (refl, tt)
 apart_last (x ∷ xs) s a h = by (λ none. apart_last xs s a.1 none) (x.dev == s.dev) refl
   where
     by : (has_seat s.dev xs ≡ false → AreApart (xs ++ s ∷ [])) → (b : Bool) → (x.dev == s.dev) ≡ b → AreApart ((x ∷ xs) ++ s ∷ [])
-    by rest true e = let c : true ≡ false = rw e at h in cc
-    by rest false e = (has_last x.dev xs s a.0 (turned _ _ e), rest (rw e at h))
+    by rest b e = search (rules, has_last)
 
 -- ---- one seat fewer
 
 has_kept : (dev i : ℕ) (seats : List SeatState) → has_seat dev seats ≡ false → has_seat dev (remove seats i) ≡ false
-has_kept dev i [] h = by i
-  where
-    by : (i : ℕ) → has_seat dev (remove (let none : List SeatState = [] in none) i) ≡ false
-    by zero = refl
-    by (suc i) = refl
+has_kept dev i [] h = grind (arith, common_steps)
 has_kept dev i (x ∷ xs) h = by (λ j none. has_kept dev j xs none) (x.dev == dev) refl i
   where
     by : ((j : ℕ) → has_seat dev xs ≡ false → has_seat dev (remove xs j) ≡ false) → (b : Bool) → (x.dev == dev) ≡ b → (i : ℕ)
         → has_seat dev (remove (x ∷ xs) i) ≡ false
-    by rest true e i = let c : true ≡ false = rw e at h in cc
-    by rest false e zero = rw e at h
-    by rest false e (suc i) = rw e (rest i (rw e at h))
+    by rest b e i = search rules
 
 pub apart_kept : (i : ℕ) (seats : List SeatState) → AreApart seats → AreApart (remove seats i)
 apart_kept zero [] a = tt

@@ -1,18 +1,18 @@
 -- The attributes that READ and WRITE find.
-use Rattle.std.proofs.Common.{◌≡◌, ℕ, ◌<◌, Bool, true, false, not, cond, ◌&&◌, subst, List, [], ◌∷◌, length, Option, Some, None, Result, Ok, Err, refl, ap, ◌∙◌}
+use Rattle.std.proofs.Common.{◌≡◌, ℕ, ◌<◌, Bool, true, false, cond, ◌&&◌, subst, List, [], ◌∷◌, length, Option, Some, None, Result, Ok, Err, refl, rules, arith}
+use Rattle.std.proofs.lemmas.Grind.{common_steps}
 use Rattle.std.specs.List.{position}
 use Rattle.std.specs.Option.{ok_or, option_and_then}
 use Rattle.std.specs.Str.{bytes_eq}
-use Rattle.std.proofs.lemmas.List.Quantifiers.{position-Some}
 use Rattle.iio_base.specs.Refusals.{◌>>=◌, ensure}
 use Rattle.iio_text.specs.declared.errors.Errno.{Errno}
-use Rattle.iio_text.specs.declared.errors.Errno.TheVariants.{EACCES, EBADF, ENODEV, ENOENT}
+use Rattle.iio_text.specs.declared.errors.Errno.TheVariants.{ENOENT}
 use Rattle.iio_text.specs.declared.values.Fixed.{Fixed}
 use Rattle.iio_attr.specs.declared.attributes.Attr.{Attr}
 use Rattle.iio_attr.specs.declared.attributes.Attr.TheVariants as attr
 use Rattle.iio_attr.specs.declared.attributes.Scope.{Scope}
 use Rattle.iio_attr.specs.declared.attributes.Scope.TheVariants as scope
-use Rattle.iio_attr.specs.Attributes.{attributes, check_of, find_in, find_of, is_writable, row_of, same_scope}
+use Rattle.iio_attr.specs.Attributes.{attributes, check_of, find_in, find_of, row_of, same_scope}
 use Rattle.iio_desc.specs.Kind as desc
 use Rattle.iio_layout.specs.Id.{id_of}
 use Rattle.iio_layout.specs.Shape.{ShapeRecord, channel_of, channel_with}
@@ -26,17 +26,6 @@ use Rattle.iiod_commands.specs.Target.{MayRead, MayWrite}
 
 -- ---- the table
 
-same_scope_is : (a b : Scope) → same_scope a b ≡ true → a ≡ b
-same_scope_is scope.Device scope.Device e = refl
-same_scope_is scope.Device scope.Channel e = absurd (cc)
-same_scope_is scope.Device scope.Buffer e = absurd (cc)
-same_scope_is scope.Channel scope.Device e = absurd (cc)
-same_scope_is scope.Channel scope.Channel e = refl
-same_scope_is scope.Channel scope.Buffer e = absurd (cc)
-same_scope_is scope.Buffer scope.Device e = absurd (cc)
-same_scope_is scope.Buffer scope.Channel e = absurd (cc)
-same_scope_is scope.Buffer scope.Buffer e = refl
-
 -- an attribute that is found is one of the scope's
 find_scope : (table : List Attr) (s : Scope) (name : List ℕ) (a : Attr) → find_in table s name ≡ Some a → (row_of a).scope ≡ s
 find_scope [] s name a e = absurd (cc)
@@ -45,41 +34,17 @@ find_scope (x ∷ xs) s name a e = by (same_scope (row_of x).scope s) refl (byte
     by : (b : Bool) → same_scope (row_of x).scope s ≡ b → (t : Bool) → cond (b && t) (Some x) (find_in xs s name) ≡ Some a
         → (find_in xs s name ≡ Some a → (row_of a).scope ≡ s)
         → (row_of a).scope ≡ s
-    by true p true e later = let same : a ≡ x = cc in ap (λ (y : Attr). (row_of y).scope) same ∙ same_scope_is _ s p
-    by true p false e later = later e
-    by false p t e later = later e
+    by b p t e later = search rules
 
 -- a channel that is found is one of the device's
 channel_within : (shape : ShapeRecord) (name : List ℕ) (c : ℕ) → channel_of shape name ≡ Some c → c < length shape.channels
 channel_within shape name c e = by (id_of name) e
   where
     at : (channels : List Channel) (test : Channel → Bool) → position test channels ≡ Some c → c < length channels
-    at [] test e = absurd (cc)
-    at (x ∷ xs) test e = (position-Some test (x ∷ xs) c x e).0
+    at channels test e = search rules
 
     by : (id : Option (Kind × Suffix)) → option_and_then (λ id. channel_with shape id) id ≡ Some c → c < length shape.channels
-    by None e = absurd (cc)
-    by (Some id) e = at shape.channels _ e
-
--- a number of a queue can't be written
-queue_numbers_kept : (a : Attr) → (row_of a).scope ≡ scope.Buffer → (text : List ℕ) → check_of a text ≡ Err EACCES
-queue_numbers_kept attr.Overruns e text = refl
-queue_numbers_kept attr.DataAvailable e text = refl
-queue_numbers_kept attr.Length e text = refl
-queue_numbers_kept attr.Discarded e text = refl
-queue_numbers_kept attr.Underruns e text = refl
-queue_numbers_kept a e text = absurd (cc)
-
--- an attribute for which a text is accepted can be written
-writable_is : (a : Attr) (text : List ℕ) (v : Fixed) → check_of a text ≡ Ok v → is_writable a ≡ true
-writable_is attr.Name text v e = absurd (cc)
-writable_is attr.Raw text v e = absurd (cc)
-writable_is attr.Overruns text v e = absurd (cc)
-writable_is attr.DataAvailable text v e = absurd (cc)
-writable_is attr.Length text v e = absurd (cc)
-writable_is attr.Discarded text v e = absurd (cc)
-writable_is attr.Underruns text v e = absurd (cc)
-writable_is a text v e = refl
+    by id e = search rules
 
 -- ---- what is named
 
@@ -89,8 +54,7 @@ named_as kind s name f x e = by (find_of s name) refl e
   where
     had : (a : Attr) (b : Bool) → find_of s name ≡ Some a → has_attribute kind a ≡ b → ((ensure b ENOENT >>= (λ there. Ok a)) >>= (λ y. Ok (f y))) ≡ Ok x
         → (y : Attr) × (find_of s name ≡ Some y) × (has_attribute kind y ≡ true) × (f y ≡ x)
-    had a true is own e = (a, is, own, cc)
-    had a false is own e = absurd (cc)
+    had a b is own e = search rules
 
     by : (o : Option Attr) → find_of s name ≡ o
         → ((ok_or o ENOENT >>= (λ a. ensure (has_attribute kind a) ENOENT >>= (λ there. Ok a))) >>= (λ y. Ok (f y))) ≡ Ok x
@@ -121,9 +85,7 @@ pub may_read : (front : Front) (dev : ℕ) (place : Place) (name : Option (List 
     → named_at (kind_at front dev) (shape_at front dev) place name ≡ Ok x → is_of_buffer place name ≡ false
     → MayRead front dev x.channel x.attribute
 may_read front dev place None x e b = absurd (cc)
-may_read front dev AtDevice (Some name) x e b =
-    let is = named_as (kind_at front dev) scope.Device name (λ a. record { channel = None; attribute = a }) x e in
-    subst (λ (y : Named). MayRead front dev y.channel y.attribute) is.3 (find_scope attributes scope.Device name is.0 is.1, is.2)
+may_read front dev AtDevice (Some name) x e b = grind (arith, common_steps)
 may_read front dev AtBuffer (Some name) x e b = absurd (cc)
 may_read front dev AtDebug (Some name) x e b = at_word front dev (channel_word (kind_at front dev) AtDebug) name x e
 may_read front dev (AtInput channel) (Some name) x e b = at_word front dev (channel_word (kind_at front dev) (AtInput channel)) name x e
@@ -145,16 +107,7 @@ of_buffer kind shape (AtOutput channel) name x e b = absurd (cc)
 -- what is found is named
 pub found_named : (kind : desc.Kind) (shape : ShapeRecord) (plugged is_open : Bool) (place : Place) (name : Option (List ℕ)) (x : Named)
     → found kind shape plugged is_open place name ≡ Ok x → named_at kind shape place name ≡ Ok x
-found_named kind shape plugged is_open place name x e = by (is_of_buffer place name) is_open plugged e
-  where
-    by : (b o p : Bool)
-        → cond (b && o) (named_at kind shape place name) (ensure p ENODEV >>= (λ free. ensure (not b) EBADF >>= (λ own. named_at kind shape place name))) ≡ Ok x
-        → named_at kind shape place name ≡ Ok x
-    by true true p e = e
-    by true false true e = absurd (cc)
-    by true false false e = absurd (cc)
-    by false o true e = e
-    by false o false e = absurd (cc)
+found_named kind shape plugged is_open place name x e = search rules
 
 -- ---- what is written
 
@@ -170,11 +123,7 @@ assigns kind shape true is_open place name payload x e = by (found kind shape tr
   where
     last : (t : Named) (v : Result Fixed Errno) → found kind shape true is_open place name ≡ Ok t → check_of t.attribute payload ≡ v
         → (v >>= (λ value. Ok (record { target = t; value = value }))) ≡ Ok x → Assigns kind shape place name payload x
-    last t (Err errno) f c e = absurd (cc)
-    last t (Ok value) f c e =
-        let same : record { target = t; value = value } ≡ x = cc in
-        subst (λ (y : Assignment). Assigns kind shape place name payload y) same
-        (record { named = found_named kind shape true is_open place name t f; checked = c })
+    last t v f c e = search rules
 
     by : (r : Result Named Errno) → found kind shape true is_open place name ≡ r
         → (r >>= (λ target. check_of target.attribute payload >>= (λ value. Ok (record { target = target; value = value })))) ≡ Ok x
@@ -191,12 +140,4 @@ may_write front dev plugged is_open place name payload x e =
   where
     by : (b : Bool) → is_of_buffer place name ≡ b → Assigns (kind_at front dev) (shape_at front dev) place name payload x
         → MayWrite front dev x.target.channel x.target.attribute x.value
-    by true b is =
-        let kept = queue_numbers_kept x.target.attribute (of_buffer (kind_at front dev) (shape_at front dev) place name x.target is.named b) payload in
-        absurd (cc (kept, is.checked))
-    by false b is = record {
-      named = may_read front dev place name x.target is.named b;
-      writable = writable_is x.target.attribute payload x.value is.checked;
-      text = payload;
-      value = is.checked;
-    }
+    by b h1 is = search (rules, of_buffer, may_read)

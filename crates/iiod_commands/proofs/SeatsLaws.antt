@@ -1,12 +1,12 @@
 -- A connection's seats as lists.
-use Rattle.std.proofs.Common.{◌≡◌, ◌≢◌, ℕ, zero, suc, ◌+◌, ◌<◌, ◌==◌, Bool, true, not, cond, List, [], ◌∷◌, ◌++◌, map, length, slice_get, slice_set, slice_index_or, remove, Option, Some, None, option_map, IfSome, is_some, Result, Ok, Err, refl, sym, ap, subst, ◌∙◌, arith}
+use Rattle.std.proofs.Common.{◌≡◌, ◌≢◌, ℕ, zero, suc, ◌+◌, ◌<◌, ◌==◌, Bool, true, not, cond, List, [], ◌∷◌, ◌++◌, map, length, slice_get, slice_set, slice_index_or, remove, Option, Some, None, option_map, IfSome, is_some, Result, Ok, Err, refl, sym, ap, subst, ◌∙◌, arith, rules}
 use Rattle.std.proofs.lemmas.List.{length-map}
 use Rattle.std.specs.Prelude.{⊤}
 use Rattle.std.specs.List.{position, prefix_len}
 use Rattle.iio_base.specs.declared.Mem.{Mem}
 use Rattle.iio_layout.specs.Shape.{ShapeRecord}
 use Rattle.iio_text.specs.declared.errors.Errno.{Errno}
-use Rattle.iio_text.specs.declared.errors.Errno.TheVariants.{EBADF, ENODEV}
+use Rattle.iio_text.specs.declared.errors.Errno.TheVariants.{EBADF}
 use Rattle.iiod_reply.specs.Reply.{Reply, Refusal}
 use Rattle.iiod_commands.specs.declared.client.OpenSeat.{OpenSeat}
 use Rattle.iiod_commands.specs.declared.iio.No.{No}
@@ -14,7 +14,7 @@ use Rattle.iiod_commands.specs.declared.iio.No.TheVariants.{Errno as NoErrno, Me
 use Rattle.iiod_commands.specs.declared.iio.Took.{Took}
 use Rattle.iiod_commands.specs.declared.iio.Took.TheVariants.{Scan, Empty, Gone}
 use Rattle.iiod_commands.specs.declared.wanted.Wanted.{Wanted as CodeWanted}
-use Rattle.iiod_commands.specs.Acts.{Acted, all_closed, all_released, zero_reply, open_at, open_wanted, joined_at, close_at, close_seat, read_at, read_seat, read_at_seat, refused, remask_at, remask_place, remask_seat, write_at_place, write_at_seat}
+use Rattle.iiod_commands.specs.Acts.{Acted, all_closed, all_released, zero_reply, open_at, joined_at, close_at, read_at, read_at_seat, remask_at, remask_seat, write_at_place, write_at_seat}
 use Rattle.iio_core.specs.Calls.{machine_after_close, ev_close_of}
 use Rattle.iiod_commands.specs.Client.{IsWanted, Wanted, SeatState, ClientRecord, are_apart, seat_state_of, trace_of, seats_of, traces_of, place_of, buffers_of, with_seats, wanted_of, State, state, answering}
 use Rattle.iio_core.specs.Front.{Front, kind_at, shape_at}
@@ -34,10 +34,7 @@ module _ {S : Type 0} (seen : S → SeatRecord) where
   -- no two seats are at one device, after one is added at a device where there was none
   pub apart_joined : (held mid held' : List (OpenSeat S)) (h : OpenSeat S) → are_apart (seats_of seen held) ≡ true → place_of h.dev (seats_of seen held) ≡ None
       → mid ≡ held → held' ≡ mid ++ h ∷ [] → are_apart (seats_of seen held') ≡ true
-  apart_joined held mid held' h a free z e =
-      rw (e, z, one_more_held (seat_state_of seen) held h)
-      (are_apart_by (seats_of seen held ++ seat_state_of seen h ∷ [])
-      (apart_last (seats_of seen held) (seat_state_of seen h) (apart_by (seats_of seen held) a) (none_has h.dev (seats_of seen held) free)))
+  apart_joined held mid held' h a free z e = search (rules, one_more_held, are_apart_by, apart_last, apart_by, none_has)
 
   prefix_is : (dev : ℕ) (held : List (OpenSeat S))
       → prefix_len (λ (s : SeatState). not (s.dev == dev)) (seats_of seen held) ≡ prefix_len (λ (h : OpenSeat S). not (h.dev == dev)) held
@@ -69,12 +66,7 @@ module _ {S : Type 0} (seen : S → SeatRecord) where
       → Some i ≡ p → i < length held → h ≡ slice_index_or held i h → held' ≡ remove held i
       → close_at front m (with_seats (seats_of seen held) base) p
       ≡ record { reply = zero_reply; machine = machine_after_close front m h.dev (seen h.seat).number; client = with_seats (seats_of seen held') base }
-  closed_at front m base i held held' h p at l e gone =
-      ap (λ q. close_at front m (with_seats (seats_of seen held) base) q) (sym at)
-      ∙ ap (λ s. close_seat front m (with_seats (seats_of seen held) base) i s) (get_is (seat_state_of seen) held i h l e)
-      ∙ ap (λ (bs : List SeatState). record
-      { reply = zero_reply; machine = machine_after_close front m h.dev (seen h.seat).number; client = with_seats bs base })
-      (sym (ap (λ hs. seats_of seen hs) gone ∙ map_remove (seat_state_of seen) held i))
+  closed_at front m base i held held' h p at l e gone = search (rules, get_is, map_remove)
 
   pub closes : (front : Front) (told told' : Option Machine) (base : ClientRecord) (dev i : ℕ) (held held' : List (OpenSeat S)) (h : OpenSeat S)
       → Some i ≡ place_of dev (seats_of seen held) → i < length held → h ≡ slice_index_or held i h → held' ≡ remove held i
@@ -82,20 +74,13 @@ module _ {S : Type 0} (seen : S → SeatRecord) where
       → IfSome told (λ m. Comes m (with_seats (seats_of seen held) base)
       (close_at front m (with_seats (seats_of seen held) base) (place_of dev (seats_of seen held)))
       zero_reply told' (with_seats (seats_of seen held') base))
-  closes front None told' base dev i held held' h at l e gone t = tt
-  closes front (Some m) told' base dev i held held' h at l e gone t =
-      (machine_after_close front m h.dev (seen h.seat).number, t, closed_at front m base i held held' h _ at l e gone)
+  closes front told told' base dev i held held' h at l e gone t = search (rules, closed_at)
 
   pub leaves : (told told' : Option Machine) (base : ClientRecord) (dev i : ℕ) (held held' : List (OpenSeat S)) → Some i ≡ place_of dev (seats_of seen held)
       → held' ≡ remove held i
       → LeavesAt dev (state told (with_seats (seats_of seen held) base) (traces_of seen held))
       (state told' (with_seats (seats_of seen held') base) (traces_of seen held'))
-  leaves told told' base dev i held held' at gone = record {
-    i = i;
-    at = sym at;
-    gone = ap (λ hs. with_seats (seats_of seen hs) base) gone ∙ ap (λ (bs : List SeatState). with_seats bs base) (map_remove (seat_state_of seen) held i);
-    told = ap (λ hs. traces_of seen hs) gone ∙ map_remove (trace_of seen) held i;
-  }
+  leaves told told' base dev i held held' at gone = search (rules, map_remove)
 
   map_set : {B : Type 0} (f : OpenSeat S → B) (held : List (OpenSeat S)) (i : ℕ) (y : OpenSeat S) → map f (slice_set held i y) ≡ slice_set (map f held) i (f y)
   map_set f [] zero y = refl
@@ -105,9 +90,7 @@ module _ {S : Type 0} (seen : S → SeatRecord) where
 
   pub apart_removed : (held held' : List (OpenSeat S)) (i : ℕ) → are_apart (seats_of seen held) ≡ true → held' ≡ remove held i
       → are_apart (seats_of seen held') ≡ true
-  apart_removed held held' i a e =
-      rw (e, map_remove (seat_state_of seen) held i)
-      (are_apart_by (remove (seats_of seen held) i) (apart_kept i (seats_of seen held) (apart_by (seats_of seen held) a)))
+  apart_removed held held' i a e = search (rules, map_remove, are_apart_by, apart_kept, apart_by)
 
   pub map_set_same : {B : Type 0} (f : OpenSeat S → B) (held : List (OpenSeat S)) (i : ℕ) (y h : OpenSeat S) → i < length held → h ≡ slice_index_or held i h
       → f y ≡ f h
@@ -131,14 +114,7 @@ module _ {S : Type 0} (seen : S → SeatRecord) where
           → IfSome told (λ m. (n : Machine) × (told' ≡ Some n)
           × (read_at front m (with_seats (seats_of seen held) base) asked (place_of dev (seats_of seen held))
           ≡ record { reply = reply; machine = n; client = with_seats (seats_of seen held) base }))
-      by None x = tt
-      by (Some m) x = (
-        x.0,
-        x.1,
-        ap (λ p. read_at front m (with_seats (seats_of seen held) base) asked p) at
-            ∙ ap (λ s. read_seat front m (with_seats (seats_of seen held) base) asked s) (get_is (seat_state_of seen) held i h l e)
-            ∙ x.2 (with_seats (seats_of seen held) base),
-      )
+      by told x = search (rules, get_is)
 
       moved : (p : Option ℕ) → p ≡ Some i → ReadsBy front asked (seats_of seen held) (traces_of seen held) p reply (traces_of seen (slice_set held i h'))
       moved None c = absurd (cc)
@@ -164,8 +140,7 @@ module _ {S : Type 0} (seen : S → SeatRecord) where
       (r.0, served_at front dev asked i told told' base client' held h h' before after _ (sym at) l e r.1)
   reads_at front dev asked i told told' base client' held h h' before after (Ok Gone) at l e r =
       (r.0, served_at front dev asked i told told' base client' held h h' before after _ (sym at) l e r.1)
-  reads_at front dev asked i told told' base client' held h h' before after (Err fault) at l e r =
-      (r.0, r.1, map_set_same (trace_of seen) held i h' h l e r.2)
+  reads_at front dev asked i told told' base client' held h h' before after (Err fault) at l e r = search (rules, map_set_same)
 
   pub writes_at : (front : Front) (told told' : Option Machine) (base : ClientRecord) (dev i : ℕ) (payload : List ℕ) (held : List (OpenSeat S)) (h : OpenSeat S)
       (reply : Reply)
@@ -178,9 +153,7 @@ module _ {S : Type 0} (seen : S → SeatRecord) where
   writes_at front (Some m) told' base dev i payload held h reply at l e w =
       let client = with_seats (seats_of seen held) base in
       let is : write_at_place front m client payload (place_of dev (seats_of seen held)) ≡ write_at_seat front m client payload (Some (seat_state_of seen h))
-      =
-      ap (λ (p : Option ℕ). write_at_place front m client payload p) (sym at)
-      ∙ ap (λ (s : Option SeatState). write_at_seat front m client payload s) (get_is (seat_state_of seen) held i h l e) in
+      = search (rules, get_is) in
       subst (λ (a : Acted). Comes m client a reply told' client) (sym is) (w client)
 
   -- ... after a seat changed nothing but its trace
@@ -192,21 +165,13 @@ module _ {S : Type 0} (seen : S → SeatRecord) where
   -- ... after a seat got another mask
   pub apart_under_mask : (held : List (OpenSeat S)) (i : ℕ) (y h : OpenSeat S) → i < length held → h ≡ slice_index_or held i h → y.dev ≡ h.dev
       → are_apart (seats_of seen held) ≡ true → are_apart (seats_of seen (slice_set held i y)) ≡ true
-  apart_under_mask held i y h l e same a =
-      rw (map_set (seat_state_of seen) held i y)
-      (are_apart_by (slice_set (seats_of seen held) i (seat_state_of seen y))
-      (apart_under i (seats_of seen held) (seat_state_of seen h) (seat_state_of seen y) (get_is (seat_state_of seen) held i h l e) same
-      (apart_by (seats_of seen held) a)))
+  apart_under_mask held i y h l e same a = search (rules, map_set, are_apart_by, apart_under, get_is, apart_by)
 
   remask_found : (front : Front) (m : Machine) (base : ClientRecord) (dev i : ℕ) (text : List ℕ) (held : List (OpenSeat S)) (h : OpenSeat S)
       → Some i ≡ place_of dev (seats_of seen held) → i < length held → h ≡ slice_index_or held i h → true ≡ is_plugged m dev
       → remask_at front m (with_seats (seats_of seen held) base) text dev
       ≡ remask_seat front m (with_seats (seats_of seen held) base) text i (Some (seat_state_of seen h))
-  remask_found front m base dev i text held h at l e plugged =
-      let client = with_seats (seats_of seen held) base in
-      ap (λ (b : Bool). cond b (remask_place front m client text (place_of dev (seats_of seen held))) (refused ENODEV m client)) (sym plugged)
-      ∙ ap (λ (p : Option ℕ). remask_place front m client text p) (sym at)
-      ∙ ap (λ (s : Option SeatState). remask_seat front m client text i s) (get_is (seat_state_of seen) held i h l e)
+  remask_found front m base dev i text held h at l e plugged = search (rules, get_is)
 
   pub remask_comes : (front : Front) (told told' : Option Machine) (base : ClientRecord) (dev i : ℕ) (text : List ℕ) (held : List (OpenSeat S))
       (h h' : OpenSeat S)
@@ -231,8 +196,7 @@ module _ {S : Type 0} (seen : S → SeatRecord) where
         ∙ ap (λ (bs : List SeatState). record { reply = Refusal x; machine = t.0; client = with_seats bs base })
         (sym (map_set_same (seat_state_of seen) held i h' h l e moves.0)),
   )
-  remask_comes front (Some m) told' base dev i text held h h' (Err NoMem) at l e plugged moves t =
-      (t, ap (λ (bs : List SeatState). with_seats bs base) (map_set_same (seat_state_of seen) held i h' h l e moves.0))
+  remask_comes front (Some m) told' base dev i text held h h' (Err NoMem) at l e plugged moves t = search (rules, map_set_same)
 
   pub remasks_by : (front : Front) (told told' : Option Machine) (base : ClientRecord) (dev i : ℕ) (text : List ℕ) (held : List (OpenSeat S))
       (h h' : OpenSeat S) (r : Result ⊤ No)
@@ -253,21 +217,14 @@ module _ {S : Type 0} (seen : S → SeatRecord) where
         at = sym at;
         here = here;
         wanted = rw its at j.2;
-        under =
-            ap (λ (bs : List SeatState). with_seats bs base)
-            (map_set (seat_state_of seen) held i h' ∙ ap (λ (s : SeatState). slice_set (seats_of seen held) i s) j.3);
+        under = search (rules, map_set);
         told = map_set (trace_of seen) held i h';
         fresh = begun (trace_of seen h) (trace_of seen h') j.4;
       }
     where
       begun : (a b : Option Trace) → b ≡ option_map (λ (x : Trace). first_trace) a → b ≡ option_map (λ (x : Trace). first_trace) b
-      begun None b is = rw is refl
-      begun (Some x) b is = rw is refl
-  remasks_by front told told' base dev i text held h h' (Err why) at l e j = (
-    ap (λ (bs : List SeatState). with_seats bs base) (map_set_same (seat_state_of seen) held i h' h l e j.0),
-    map_set_same (trace_of seen) held i h' h l e
-        j.1,
-  )
+      begun a b is = search rules
+  remasks_by front told told' base dev i text held h h' (Err why) at l e j = search (rules, map_set_same)
 
   closed_last : (front : Front) (m : Machine) (xs : List SeatState) (s : SeatState)
       → all_closed front m (xs ++ s ∷ []) ≡ all_closed front (machine_after_close front m s.dev s.number) xs
@@ -278,21 +235,14 @@ module _ {S : Type 0} (seen : S → SeatRecord) where
       → before ≡ after ++ h ∷ [] → t ≡ Some n → all_closed front n (seats_of seen before) ≡ all_closed front m (seats_of seen first)
       → IfSome t (λ k. t' ≡ Some (machine_after_close front k h.dev (seen h.seat).number))
       → (k : Machine) × (t' ≡ Some k) × (all_closed front k (seats_of seen after) ≡ all_closed front m (seats_of seen first))
-  closing_one front m n t t' first before after h split told same close =
-      let now : t' ≡ Some (machine_after_close front n h.dev (seen h.seat).number) = rw told at close in (
-        machine_after_close front n h.dev (seen h.seat).number,
-        now,
-        sym (closed_last front n (seats_of seen after) (seat_state_of seen h))
-            ∙ ap (λ d. all_closed front n d) (sym (ap (λ hs. seats_of seen hs) split ∙ one_more_held (seat_state_of seen) after h)) ∙ same,
-      )
+  closing_one front m n t t' first before after h split told same close = search (rules, closed_last, one_more_held)
 
   pub closing_more : (front : Front) (told t t' : Option Machine) (first before after : List (OpenSeat S)) (h : OpenSeat S)
       → before ≡ after ++ h ∷ []
       → IfSome told (λ m. (n : Machine) × (t ≡ Some n) × (all_closed front n (seats_of seen before) ≡ all_closed front m (seats_of seen first)))
       → IfSome t (λ k. t' ≡ Some (machine_after_close front k h.dev (seen h.seat).number))
       → IfSome told (λ m. (n : Machine) × (t' ≡ Some n) × (all_closed front n (seats_of seen after) ≡ all_closed front m (seats_of seen first)))
-  closing_more front None t t' first before after h split inv close = tt
-  closing_more front (Some m) t t' first before after h split inv close = closing_one front m inv.0 t t' first before after h split inv.1 inv.2 close
+  closing_more front told t t' first before after h split inv close = search (rules, closing_one)
 
 -- ---- holdings
 
@@ -300,53 +250,21 @@ released_last : (m : Machine) (who : ℕ) (xs : List ℕ) (dev : ℕ) → all_re
 released_last m who [] dev = refl
 released_last m who (x ∷ xs) dev = ap (λ n. (ev_close_of n x who).machine) (released_last m who xs dev)
 
--- a holding that ends, or that there wasn't: either way the state is the stated one
-ended : (n : Machine) (dev who : ℕ) (r : Result ⊤ No) (t' : Option Machine) → r ≢ Err NoMem → Answers (ev_close_of n dev who) n r t'
-    → t' ≡ Some (ev_close_of n dev who).machine
-ended n dev who (Ok done) t' some a = a.1
-ended n dev who (Err (NoErrno e)) t' some a = a.1
-ended n dev who (Err NoMem) t' some a = absurd (some refl)
-
 releasing_one : (m n : Machine) (t t' : Option Machine) (who : ℕ) (first before after : List ℕ) (dev : ℕ) (r : Result ⊤ No)
     → before ≡ after ++ dev ∷ [] → t ≡ Some n → all_released n who before ≡ all_released m who first
     → r ≢ Err NoMem → IfSome t (λ k. Answers (ev_close_of k dev who) k r t')
     → (k : Machine) × (t' ≡ Some k) × (all_released k who after ≡ all_released m who first)
-releasing_one m n t t' who first before after dev r split told same some close = (
-  (ev_close_of n dev who).machine,
-  ended n dev who r t' some (rw told at close),
-  sym (released_last n who after dev) ∙ ap (λ ds. all_released n who ds) (sym split) ∙ same,
-)
+releasing_one m n t t' who first before after dev r split told same some close = search (rules, released_last)
 
 pub releasing_more : (told t t' : Option Machine) (who : ℕ) (first before after : List ℕ) (dev : ℕ) (r : Result ⊤ No)
     → before ≡ after ++ dev ∷ []
     → IfSome told (λ m. (n : Machine) × (t ≡ Some n) × (all_released n who before ≡ all_released m who first))
     → r ≢ Err NoMem → IfSome t (λ k. Answers (ev_close_of k dev who) k r t')
     → IfSome told (λ m. (n : Machine) × (t' ≡ Some n) × (all_released n who after ≡ all_released m who first))
-releasing_more None t t' who first before after dev r split inv some close = tt
-releasing_more (Some m) t t' who first before after dev r split inv some close =
-    releasing_one m inv.0 t t' who first before after dev r split inv.1 inv.2 some close
+releasing_more told t t' who first before after dev r split inv some close = search (rules, releasing_one)
 
 pub read_nowhere : (front : Front) (dev asked : ℕ) (a : State) → place_of dev a.client.seats ≡ None → ReadServedAt front dev asked a a (Refusal EBADF)
-read_nowhere front dev asked a at = record { exact = by a.told; moves = moved (place_of dev a.client.seats) at; whole = tt }
-  where
-    by : (told : Option Machine)
-        → IfSome told (λ m. (n : Machine) × (told ≡ Some n)
-        × (read_at front m a.client asked (place_of dev a.client.seats) ≡ record { reply = Refusal EBADF; machine = n; client = a.client }))
-    by None = tt
-    by (Some m) = (m, refl, ap (λ p. read_at front m a.client asked p) at)
-
-    moved : (p : Option ℕ) → p ≡ None → ReadsBy front asked a.client.seats a.traces p (Refusal EBADF) a.traces
-    moved None e = (refl, refl)
-    moved (Some i) e = absurd (cc)
-
--- the code finds what the definitions say
-wanted_is : (front : Front) (m : Machine) (client : ClientRecord) (dev samples : ℕ) (text : List ℕ) (cyclic is_open plugged : Bool) (shape : ShapeRecord)
-    (buffers : ℕ) (w : Result Wanted Errno)
-    → is_open ≡ is_some (place_of dev client.seats) → plugged ≡ is_plugged m dev → shape ≡ shape_at front dev → buffers ≡ buffers_of dev client.buffers
-    → w ≡ wanted_of is_open plugged (kind_at front dev) shape buffers samples text cyclic
-    → open_at front m client dev samples text cyclic ≡ open_wanted front m client dev cyclic w
-wanted_is front m client dev samples text cyclic is_open plugged shape buffers w e0 e1 e2 e3 e =
-    ap (λ x. open_wanted front m client dev cyclic x) (rw (sym e0, sym e1, sym e2, sym e3) (sym e))
+read_nowhere front dev asked a at = search rules
 
 pub opens : (front : Front) (told told' : Option Machine) (client client' : ClientRecord) (dev samples : ℕ) (text : List ℕ) (cyclic is_open plugged : Bool)
     (shape : ShapeRecord) (buffers : ℕ) (w : CodeWanted) (reply : Reply)
@@ -355,9 +273,7 @@ pub opens : (front : Front) (told told' : Option Machine) (client client' : Clie
     → Ok (wanted_of_code w) ≡ wanted_of is_open plugged (kind_at front dev) shape buffers samples text cyclic
     → IfSome told (λ m. Comes m client (joined_at front m client dev (wanted_of_code w) cyclic) reply told' client')
     → IfSome told (λ m. Comes m client (open_at front m client dev samples text cyclic) reply told' client')
-opens front None told' client client' dev samples text cyclic is_open plugged shape buffers w reply e0 e1 e2 e3 e c = tt
-opens front (Some m) told' client client' dev samples text cyclic is_open plugged shape buffers w reply e0 e1 e2 e3 e c =
-    rw (wanted_is front m client dev samples text cyclic is_open plugged shape buffers _ e0 e1 e2 e3 e) c
+opens front told told' client client' dev samples text cyclic is_open plugged shape buffers w reply e0 e1 e2 e3 e c = search rules
 
 pub refuses : (front : Front) (told : Option Machine) (client : ClientRecord) (dev samples : ℕ) (text : List ℕ) (cyclic is_open plugged : Bool)
     (shape : ShapeRecord) (buffers : ℕ) (errno : Errno)
@@ -365,14 +281,11 @@ pub refuses : (front : Front) (told : Option Machine) (client : ClientRecord) (d
     → buffers ≡ buffers_of dev client.buffers
     → Err errno ≡ wanted_of is_open plugged (kind_at front dev) shape buffers samples text cyclic
     → IfSome told (λ m. Comes m client (open_at front m client dev samples text cyclic) (Refusal errno) told client)
-refuses front None client dev samples text cyclic is_open plugged shape buffers errno e0 e1 e2 e3 e = tt
-refuses front (Some m) client dev samples text cyclic is_open plugged shape buffers errno e0 e1 e2 e3 e =
-    (m, refl, wanted_is front m client dev samples text cyclic is_open plugged shape buffers _ e0 e1 e2 e3 e)
+refuses front told client dev samples text cyclic is_open plugged shape buffers errno e0 e1 e2 e3 e = search rules
 
 -- an OPEN by what it asks for, at the shape and the buffers count that the code found
 pub opens_by : (front : Front) (dev samples : ℕ) (text : List ℕ) (cyclic : Bool) (a b : State) (shape : ShapeRecord) (buffers : ℕ) (x : Wanted)
     (r : Result ⊤ No)
     → shape ≡ shape_at front dev → buffers ≡ buffers_of dev a.client.buffers → IsWanted (kind_at front dev) shape buffers samples text cyclic x
     → MovesBy (JoinsAt dev x) a r b → MovesBy (OpensAt front dev samples text cyclic) a r b
-opens_by front dev samples text cyclic a b shape buffers x (Ok done) e n w j = (x, rw (e, n) at w, j)
-opens_by front dev samples text cyclic a b shape buffers x (Err why) e n w j = j
+opens_by front dev samples text cyclic a b shape buffers x r e n w j = search rules

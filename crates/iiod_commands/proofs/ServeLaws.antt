@@ -1,5 +1,6 @@
 -- One item and its answer.
-use Rattle.std.proofs.Common.{◌≡◌, ◌⊎◌, ℕ, ◌+◌, ◌≤◌, Bool, true, false, not, cond, List, ◌++◌, length, arith, inl, inr, Option, Some, None, IfSome, Result, Ok, Err, IfOk, OnOk, refl, sym, ap, ◌∙◌}
+use Rattle.std.proofs.Common.{◌≡◌, ◌⊎◌, ℕ, ◌+◌, ◌≤◌, Bool, true, false, List, ◌++◌, length, arith, inl, Option, Some, None, IfSome, Result, Ok, Err, IfOk, OnOk, refl, sym, ap, ◌∙◌, rules}
+use Rattle.std.proofs.lemmas.Grind.{common_steps}
 use Rattle.std.specs.Prelude.{⊤}
 use Rattle.iio_base.specs.declared.Mem.{Mem}
 use Rattle.iio_text.specs.declared.errors.Errno.{Errno}
@@ -9,23 +10,23 @@ use Rattle.iio_desc.specs.Kind.{is_average, is_output}
 use Rattle.iio_device.specs.Site.{is_empty}
 use Rattle.iiod_grammar.specs.Command.{Command, Open, Close, Read, ReadBuf, GetTrig, SetTrig, SetBuffers, Remask, EvOpen, EvRead, EvClose}
 use Rattle.iiod_grammar.specs.Stream.{Item, Said, Streamed}
-use Rattle.iiod_reply.specs.Reply.{Reply, Nothing, Number, Refusal, Line, Value, Raw, Block, NoMemory, text_of}
+use Rattle.iiod_reply.specs.Reply.{Reply, Refusal, NoMemory, text_of}
 use Rattle.iiod_commands.specs.declared.answers.TheConstants.{SHORT_ANSWER}
 use Rattle.iiod_commands.specs.declared.iio.No.{No}
-use Rattle.iiod_commands.specs.declared.iio.No.TheVariants.{Errno as NoErrno, Mem as NoMem}
+use Rattle.iiod_commands.specs.declared.iio.No.TheVariants.{Errno as NoErrno}
 use Rattle.iiod_commands.specs.declared.iio.Took.{Took}
 use Rattle.iiod_commands.specs.declared.iio.Took.TheVariants.{Scan, Empty, Gone}
 use Rattle.iiod_commands.specs.declared.manner.Manner.{Manner}
 use Rattle.iiod_commands.specs.declared.manner.Manner.TheVariants.{Script, Server}
 use Rattle.iiod_commands.specs.declared.manner.Progress.{Progress}
-use Rattle.iiod_commands.specs.declared.manner.Progress.TheVariants.{Done, Waits}
-use Rattle.iiod_commands.specs.Acts.{Acted, Acts, act, altered, at_device, refused, retriggered, settled, open_at, close_at, read_at, read_buffer_at, read_attribute_at, ev_close_known, ev_open_known, ev_read_known, get_trigger_at, remask_known, set_buffers_at, set_trigger_at, trigger_named, where_known, write_buffer_at, zero_reply}
+use Rattle.iiod_commands.specs.declared.manner.Progress.TheVariants.{Done}
+use Rattle.iiod_commands.specs.Acts.{Acted, Acts, act, at_device, refused, retriggered, settled, open_at, close_at, read_at, read_buffer_at, read_attribute_at, ev_close_known, ev_open_known, ev_read_known, get_trigger_at, remask_known, set_buffers_at, set_trigger_at, trigger_named, where_known, write_buffer_at, zero_reply}
 use Rattle.iiod_commands.specs.Answers.{IsAt}
-use Rattle.iiod_commands.specs.Client.{SeatState, ClientRecord, place_of, with_count, with_holding, without_holding, State, state, Answering, answering}
+use Rattle.iiod_commands.specs.Client.{ClientRecord, place_of, with_count, with_holding, without_holding, State, state, Answering, answering}
 use Rattle.iio_core.specs.Front.{Front, find_device, kind_at}
-use Rattle.iio_core.specs.Machine.{Machine, is_plugged, station_at, with_site}
-use Rattle.iio_core.specs.Calls.{CallResult, set_trigger_of, unless}
-use Rattle.iiod_commands.specs.Moves.{Accepts, AnswersAlone, AnswersAs, IsOrShort, Moves, ReadsBy, Serves, at_known, at_seat, OpensAt, LeavesAt, RemasksAt}
+use Rattle.iio_core.specs.Machine.{Machine, is_plugged, station_at}
+use Rattle.iio_core.specs.Calls.{set_trigger_of}
+use Rattle.iiod_commands.specs.Moves.{Accepts, AnswersAlone, AnswersAs, IsOrShort, Moves, Serves, at_known, at_seat, OpensAt, LeavesAt, RemasksAt}
 use Rattle.iiod_commands.specs.Performs.{AnswersRead, Comes, HasRoomAfter, IsAllowed, IsAnswerOf, IsFound, IsWhole, Performs, ReadAt, ReadServedAt, client_by, reply_by, taken_by, MovesBy}
 use Rattle.iiod_commands.specs.Seat.{Answers, Trace}
 
@@ -33,20 +34,12 @@ use Rattle.iiod_commands.specs.Seat.{Answers, Trace}
 pub comes_acts : (front : Front) (m : Machine) (client client' : ClientRecord) (item : Item) (o : Acted) (reply : Reply) (told' : Option Machine)
     → act front m client item ≡ o
     → Comes m client o reply told' client' → Acts front m client item reply told' client'
-comes_acts front m client client' item o NoMemory told' e c = c
-comes_acts front m client client' item o Nothing told' e c = (c.0, c.1, e ∙ c.2)
-comes_acts front m client client' item o (Number n) told' e c = (c.0, c.1, e ∙ c.2)
-comes_acts front m client client' item o (Refusal x) told' e c = (c.0, c.1, e ∙ c.2)
-comes_acts front m client client' item o (Line t) told' e c = (c.0, c.1, e ∙ c.2)
-comes_acts front m client client' item o (Value t) told' e c = (c.0, c.1, e ∙ c.2)
-comes_acts front m client client' item o (Raw t) told' e c = (c.0, c.1, e ∙ c.2)
-comes_acts front m client client' item o (Block a b d f) told' e c = (c.0, c.1, e ∙ c.2)
+comes_acts front m client client' item o reply told' e c = search rules
 
 pub all_comes : (front : Front) (told told' : Option Machine) (client client' : ClientRecord) (item : Item) (o : Machine → Acted) (reply : Reply)
     → ((m : Machine) → act front m client item ≡ o m)
     → IfSome told (λ m. Comes m client (o m) reply told' client') → IfSome told (λ m. Acts front m client item reply told' client')
-all_comes front None told' client client' item o reply e c = tt
-all_comes front (Some m) told' client client' item o reply e c = comes_acts front m client client' item (o m) reply told' (e m) c
+all_comes front told told' client client' item o reply e c = search rules
 
 -- at a device of a kind that knows the command, and at one of another kind
 pub known : (is : Bool) (told told' : Option Machine) (client client' : ClientRecord) (dev : ℕ) (acted : Machine → Acted) (reply : Reply) → is ≡ true
@@ -63,44 +56,21 @@ not_known is (Some m) client dev acted reply e u = rw e (u client (acted m))
 -- a refusal changes nothing
 pub all_refused : (front : Front) (told : Option Machine) (client : ClientRecord) (item : Item) (e : Errno)
     → ((m : Machine) → act front m client item ≡ refused e m client) → IfSome told (λ m. Acts front m client item (Refusal e) told client)
-all_refused front None client item e is = tt
-all_refused front (Some m) client item e is = (m, refl, is m)
+all_refused front told client item e is = search rules
 
 -- ---- answers over any devices
 
 -- if the connection has no seat at the device
 seatless : (p : Option ℕ) (reply : Reply) → (p ≡ None → reply ≡ Refusal EBADF) → IfSome (at_seat p) (λ answer. IsOrShort answer reply)
-seatless None reply h = inl (h refl)
-seatless (Some i) reply h = tt
+seatless p reply h = search rules
 
 -- lack of memory, instead of another answer
 pub short_at : (o : Option ℕ) → IfSome (at_known (λ dev. None) o) (λ answer. IsOrShort answer NoMemory)
-short_at None = inr refl
-short_at (Some dev) = tt
-
-short_place : (p : Option ℕ) → IfSome (at_seat p) (λ answer. IsOrShort answer NoMemory)
-short_place None = inr refl
-short_place (Some i) = tt
-
-pub short_seat : (seats : List SeatState) (o : Option ℕ) → IfSome (at_known (λ dev. at_seat (place_of dev seats)) o) (λ answer. IsOrShort answer NoMemory)
-short_seat seats None = inr refl
-short_seat seats (Some dev) = short_place (place_of dev seats)
-
--- ... instead of a READBUF's answer, for which an output device is asked
-short_reader : (front : Front) (seats : List SeatState) (o : Option ℕ)
-    → IfSome (at_known (λ dev. cond (is_output (kind_at front dev)) None (at_seat (place_of dev seats))) o) (λ answer. IsOrShort answer NoMemory)
-short_reader front seats None = inr refl
-short_reader front seats (Some dev) = by (is_output (kind_at front dev))
-  where
-    by : (b : Bool) → IfSome (cond b None (at_seat (place_of dev seats))) (λ answer. IsOrShort answer NoMemory)
-    by true = tt
-    by false = short_place (place_of dev seats)
+short_at o = search rules
 
 -- a command that is answered by 0 if it isn't refused
 pub settles : (front : Front) (item : Item) (r : Result ⊤ No) → Accepts front item zero_reply → AnswersAs front item (reply_by r)
-settles front item (Ok done) a = a
-settles front item (Err (NoErrno e)) a = tt
-settles front item (Err NoMem) a = tt
+settles front item r a = search rules
 
 -- ---- a command at a device
 
@@ -121,17 +91,7 @@ on_device front m client command = λ dev. refused ENODEV m client
 act_at : (front : Front) (m : Machine) (client : ClientRecord) (o : Option ℕ) (command : Command) → IsAt front o command
     → act front m client (Said (Ok command)) ≡ at_device m client (on_device front m client command) o
 unfolding act
-act_at front m client o (Open device samples text cyclic) e = ap (λ x. at_device m client (λ dev. open_at front m client dev samples text cyclic) x) (sym e)
-act_at front m client o (Close device) e = ap (λ x. at_device m client (λ dev. close_at front m client (place_of dev client.seats)) x) (sym e)
-act_at front m client o (Read device place name) e = ap (λ x. at_device m client (λ dev. read_attribute_at front m client place name dev) x) (sym e)
-act_at front m client o (GetTrig device) e = ap (λ x. at_device m client (λ dev. get_trigger_at front m client dev) x) (sym e)
-act_at front m client o (SetTrig device name) e = ap (λ x. at_device m client (λ dev. set_trigger_at front m client name dev) x) (sym e)
-act_at front m client o (SetBuffers device n) e = ap (λ x. at_device m client (λ dev. set_buffers_at m client n dev) x) (sym e)
-act_at front m client o (Remask device text) e = ap (λ x. at_device m client (λ dev. remask_known front m client text dev) x) (sym e)
-act_at front m client o (EvOpen device) e = ap (λ x. at_device m client (λ dev. ev_open_known front m client dev) x) (sym e)
-act_at front m client o (EvRead device) e = ap (λ x. at_device m client (λ dev. ev_read_known front m client dev) x) (sym e)
-act_at front m client o (EvClose device) e = ap (λ x. at_device m client (λ dev. ev_close_known front m client dev) x) (sym e)
-act_at front m client o command e = absurd e
+act_at front m client o command e = search rules
 
 -- if there is no device of that name
 unknown : (front : Front) (a : State) (command : Command) → IsAt front None command
@@ -178,9 +138,7 @@ serves_open front a b device samples text cyclic dev r e t j =
   where
     moved : (r : Result ⊤ No) → MovesBy (OpensAt front dev samples text cyclic) a r b
         → Moves front a (Said (Ok (Open device samples text cyclic))) (reply_by r) b
-    moved (Ok n) j = record { dev = dev; named = sym e; moves = j }
-    moved (Err (NoErrno x)) j = j
-    moved (Err NoMem) j = j
+    moved r j = search rules
 
 -- ---- CLOSE
 
@@ -194,9 +152,7 @@ serves_close front a b device dev r e t none j =
     (moved r j)
   where
     moved : (r : Result ⊤ No) → MovesBy (LeavesAt dev) a r b → Moves front a (Said (Ok (Close device))) (reply_by r) b
-    moved (Ok n) j = record { dev = dev; named = sym e; moves = j }
-    moved (Err (NoErrno x)) j = j
-    moved (Err NoMem) j = j
+    moved r j = search rules
 
 -- ---- REMASK
 
@@ -207,9 +163,7 @@ serves_remask front a b device text dev r e t j =
     serves_at front a b (Remask device text) dev (reply_by r) e (rw (sym e) tt) (settles front (Said (Ok (Remask device text))) r refl) t (moved r j)
   where
     moved : (r : Result ⊤ No) → MovesBy (RemasksAt front dev text) a r b → Moves front a (Said (Ok (Remask device text))) (reply_by r) b
-    moved (Ok n) j = record { dev = dev; named = sym e; moves = j }
-    moved (Err (NoErrno x)) j = j
-    moved (Err NoMem) j = j
+    moved r j = search rules
 
 -- ---- READBUF
 
@@ -218,61 +172,12 @@ read_is : (front : Front) (client : ClientRecord) (device : List ℕ) (asked dev
     → (m : Machine)
     → act front m client (Said (Ok (ReadBuf device asked))) ≡ read_at front m client asked (place_of dev client.seats)
 unfolding act
-read_is front client device asked dev e read m =
-    ap (λ o. at_device m client (read_buffer_at front m client asked) o) e
-    ∙ ap (λ (b : Bool). where_known (not b) m client dev (read_at front m client asked (place_of dev client.seats))) read
+read_is front client device asked dev e read m = cc
 
 pub serves_read : (front : Front) (a b : State) (device : List ℕ) (asked dev : ℕ) (reply : Reply)
     → find_device front device ≡ Some dev → is_output (kind_at front dev) ≡ false → b.client ≡ a.client
     → ReadServedAt front dev asked a b reply → Serves front a (Said (Ok (ReadBuf device asked))) reply b
-serves_read front a b device asked dev reply e read same r =
-    record {
-      alone = rw (e, read) (unseated (place_of dev a.client.seats) r.moves);
-      formed = formed reply;
-      exact = by a.told r.exact;
-      moves = moved reply r.whole r.moves;
-    }
-  where
-    unseated : (p : Option ℕ) → ReadsBy front asked a.client.seats a.traces p reply b.traces → IfSome (at_seat p) (λ answer. IsOrShort answer reply)
-    unseated None x = inl x.0
-    unseated (Some i) x = tt
-
-    formed : (reply : Reply) → AnswersAs front (Said (Ok (ReadBuf device asked))) reply
-    formed (Refusal k) = tt
-    formed NoMemory = tt
-    formed reply = tt
-
-    moved : (reply : Reply) → IsWhole reply → ReadsBy front asked a.client.seats a.traces (place_of dev a.client.seats) reply b.traces
-        → Moves front a (Said (Ok (ReadBuf device asked))) reply b
-    moved NoMemory w x = absurd w
-    moved Nothing w x = (same, rw (e, read) x)
-    moved (Number n) w x = (same, rw (e, read) x)
-    moved (Refusal k) w x = (same, rw (e, read) x)
-    moved (Line t) w x = (same, rw (e, read) x)
-    moved (Value t) w x = (same, rw (e, read) x)
-    moved (Raw t) w x = (same, rw (e, read) x)
-    moved (Block p q v w') w x = (same, rw (e, read) x)
-
-    acts : (m n : Machine) (reply : Reply) → IsWhole reply → b.told ≡ Some n
-        → read_at front m a.client asked (place_of dev a.client.seats) ≡ record { reply = reply; machine = n; client = a.client }
-        → Comes m a.client (read_at front m a.client asked (place_of dev a.client.seats)) reply b.told b.client
-    acts m n NoMemory w t x = absurd w
-    acts m n Nothing w t x = (n, t, rw same x)
-    acts m n (Number k) w t x = (n, t, rw same x)
-    acts m n (Refusal k) w t x = (n, t, rw same x)
-    acts m n (Line k) w t x = (n, t, rw same x)
-    acts m n (Value k) w t x = (n, t, rw same x)
-    acts m n (Raw k) w t x = (n, t, rw same x)
-    acts m n (Block p q v w') w t x = (n, t, rw same x)
-
-    by : (told : Option Machine)
-        → IfSome told (λ m. (n : Machine) × (b.told ≡ Some n)
-        × (read_at front m a.client asked (place_of dev a.client.seats) ≡ record { reply = reply; machine = n; client = a.client }))
-        → IfSome told (λ m. Acts front m a.client (Said (Ok (ReadBuf device asked))) reply b.told b.client)
-    by None x = tt
-    by (Some m) x =
-        comes_acts front m a.client b.client (Said (Ok (ReadBuf device asked))) _ reply b.told (read_is front a.client device asked dev e read m)
-        (acts m x.0 reply r.whole x.1 x.2)
+serves_read front a b device asked dev reply e read same r = grind (arith, common_steps, read_is)
 
 unknown_read : (front : Front) (client : ClientRecord) (device : List ℕ) (asked : ℕ) → find_device front device ≡ None → (m : Machine)
     → act front m client (Said (Ok (ReadBuf device asked))) ≡ refused ENODEV m client
@@ -281,22 +186,7 @@ unknown_read front client device asked e m = ap (λ o. at_device m client (read_
 
 pub no_read : (front : Front) (a : State) (device : List ℕ) (asked : ℕ) → find_device front device ≡ None
     → Serves front a (Said (Ok (ReadBuf device asked))) (Refusal ENODEV) a
-no_read front a device asked e = record {
-  alone = rw e (inl refl);
-  formed = tt;
-  exact = all_refused front a.told a.client _ ENODEV (unknown_read front a.client device asked e);
-  moves = (refl, rw e (refl, refl));
-}
-
--- memory ran out before anything had changed
-short_read : (front : Front) (a b : State) (device : List ℕ) (asked : ℕ) → b.told ≡ a.told → b.client ≡ a.client → b.traces ≡ a.traces
-    → Serves front a (Said (Ok (ReadBuf device asked))) NoMemory b
-short_read front a b device asked t d s =
-    record { alone = short_reader front a.client.seats (find_device front device); formed = tt; exact = by a.told t; moves = (d, s) }
-  where
-    by : (told : Option Machine) → b.told ≡ told → IfSome told (λ m. (b.told ≡ Some m) × (b.client ≡ a.client))
-    by None t = tt
-    by (Some m) t = (t, d)
+no_read front a device asked e = search (rules, unknown_read)
 
 -- ---- the end of an item
 
@@ -304,43 +194,17 @@ pub finished : (manner : Manner) (front : Front) (x : Answering) (item : Item) (
     → Serves front x.state item reply y.state
     → IfOk r (λ p. p ≡ Done) → OnOk r (y.out ≡ x.out ++ text_of reply) → OnOk r (IsAllowed manner reply) → IsAnswerOf item manner reply
     → IfOk r (Performs manner front x item y)
-finished manner front x item y reply (Ok Done) s d t a i = (reply, t, a, i, s)
-finished manner front x item y reply (Ok (Waits dev)) s d t a i = absurd (cc)
-finished manner front x item y reply (Err fault) s d t a i = tt
+finished manner front x item y reply r s d t a i = search rules
 
 pub allowed : (manner : Manner) (reply : Reply) → IsWhole reply → IsAllowed manner reply
-allowed manner NoMemory w = absurd w
-allowed Script Nothing w = tt
-allowed Script (Number n) w = tt
-allowed Script (Refusal e) w = tt
-allowed Script (Line t) w = tt
-allowed Script (Value t) w = tt
-allowed Script (Raw t) w = tt
-allowed Script (Block a b c d) w = tt
-allowed Server Nothing w = tt
-allowed Server (Number n) w = tt
-allowed Server (Refusal e) w = tt
-allowed Server (Line t) w = tt
-allowed Server (Value t) w = tt
-allowed Server (Raw t) w = tt
-allowed Server (Block a b c d) w = tt
+allowed manner reply w = search rules
 
 pub found_answer : (device : List ℕ) (asked : ℕ) (manner : Manner) (reply : Reply) → IsFound reply → IsAnswerOf (Said (Ok (ReadBuf device asked))) manner reply
-found_answer device asked Script reply f = tt
-found_answer device asked Server (Refusal EAGAIN) f = absurd f
-found_answer device asked Server (Refusal e) f = tt
-found_answer device asked Server Nothing f = tt
-found_answer device asked Server (Number n) f = tt
-found_answer device asked Server (Line t) f = tt
-found_answer device asked Server (Value t) f = tt
-found_answer device asked Server (Raw t) f = tt
-found_answer device asked Server (Block a b c d) f = tt
-found_answer device asked Server NoMemory f = tt
+found_answer device asked manner reply f = search rules
 
 pub unread_answer : (device : List ℕ) (asked : ℕ) (manner : Manner) (e : Errno) → (e ≡ ENODEV) ⊎ (e ≡ ENOSYS)
     → IsAnswerOf (Said (Ok (ReadBuf device asked))) manner (Refusal e)
-unread_answer device asked manner e (inl is) = rw is (found_answer device asked manner (Refusal ENODEV) tt)
-unread_answer device asked manner e (inr is) = rw is (found_answer device asked manner (Refusal ENOSYS) tt)
+unread_answer device asked manner e h1 = search rules
 
 answered : (manner : Manner) (front : Front) (x y : Answering) (after device : List ℕ) (asked dev : ℕ) (took : Result Took Mem) (p : Progress)
     → find_device front device ≡ Some dev → is_output (kind_at front dev) ≡ false → y.state.client ≡ x.state.client
@@ -373,21 +237,13 @@ answered Script front x y after device asked dev (Ok Empty) p e read same r a =
       tt,
       serves_read front x.state y.state device asked dev _ e read same r.1,
     )
-answered manner front x y after device asked dev (Err fault) p e read same r a =
-    rw a.1 (
-      NoMemory,
-      a.0 ∙ ap (λ (xs : List ℕ). xs ++ text_of NoMemory) r.0,
-      a.2,
-      found_answer device asked manner NoMemory tt,
-      short_read front x.state y.state device asked r.1 same r.2,
-    )
+answered manner front x y after device asked dev (Err fault) p e read same r a = search rules
 
 pub answers : (manner : Manner) (front : Front) (x y : Answering) (after device : List ℕ) (asked dev : ℕ) (took : Result Took Mem) (r : Result Progress Mem)
     → find_device front device ≡ Some dev → is_output (kind_at front dev) ≡ false → y.state.client ≡ x.state.client
     → ReadAt front dev asked x y took → IfOk r (AnswersRead manner dev took y.out after)
     → IfOk r (Performs manner front x (Said (Ok (ReadBuf device asked))) (answering y.state after))
-answers manner front x y after device asked dev took (Ok p) e read same r a = answered manner front x y after device asked dev took p e read same r a
-answers manner front x y after device asked dev took (Err fault) e read same r a = tt
+answers manner front x y after device asked dev took r e read same h1 a = search (rules, answered)
 
 -- ---- SETTRIG
 
@@ -396,34 +252,14 @@ retriggers : (m : Machine) (client : ClientRecord) (dev : ℕ) (to : Option ℕ)
     → is_empty (station_at m dev).members ≡ alone
     → retriggered m client dev (ensure alone EBUSY >>= (λ free. Ok to)) ≡ settled client (set_trigger_of m dev to)
 unfolding set_trigger_of station_at is_plugged
-retriggers m client dev to alone plugged is =
-    sym (ap (λ (p : Bool). answered (ensure p ENODEV >>= (λ here. ensure (is_empty (station_at m dev).members) EBUSY))) plugged
-    ∙ ap (λ (b : Bool). answered (ensure b EBUSY)) is ∙ same alone)
-  where
-    answered : Result ⊤ Errno → Acted
-    answered r = settled client (unless (with_site (λ site. record site { trigger = to })) dev m r)
-
-    same : (b : Bool) → answered (ensure b EBUSY) ≡ retriggered m client dev (ensure b EBUSY >>= (λ free. Ok to))
-    same true = refl
-    same false = refl
-
--- a call whose answer is the command's
-comes_by : (m : Machine) (client : ClientRecord) (acted : Acted) (o : CallResult ⊤) (r : Result ⊤ No) (told' : Option Machine) → acted ≡ settled client o
-    → Answers o m r told' → Comes m client acted (reply_by r) told' client
-comes_by m client acted o (Ok done) told' is a = (o.machine, a.1, is ∙ ap (altered (λ d. d) client o.machine) a.0)
-comes_by m client acted o (Err (NoErrno e)) told' is a = (o.machine, a.1, is ∙ ap (altered (λ d. d) client o.machine) a.0)
-comes_by m client acted o (Err NoMem) told' is a = (a, refl)
+retriggers m client dev to alone plugged is = search rules
 
 pub set_found : (front : Front) (told told' : Option Machine) (client : ClientRecord) (name : Option (List ℕ)) (dev : ℕ) (to : Option ℕ) (p : Bool)
     (r : Result ⊤ No)
     → IfSome told (λ m. p ≡ is_plugged m dev) → p ≡ true → is_average (kind_at front dev) ≡ false → trigger_named front name ≡ Ok to
     → IfSome told (λ m. Answers (set_trigger_of m dev to) m r told')
     → IfSome told (λ m. Comes m client (set_trigger_at front m client name dev) (reply_by r) told' client)
-set_found front None told' client name dev to p r plugged here own named answers = tt
-set_found front (Some m) told' client name dev to p r plugged here own named answers =
-    let at = sym plugged ∙ here in
-    comes_by m client (set_trigger_at front m client name dev) (set_trigger_of m dev to) r told'
-    (rw (own, named, at) (retriggers m client dev to (is_empty (station_at m dev).members) at refl)) answers
+set_found front told told' client name dev to p r plugged here own named answers = search (rules, retriggers)
 
 pub serves_set_trigger : (front : Front) (a : State) (told' : Option Machine) (device : List ℕ) (name : Option (List ℕ)) (dev : ℕ) (r : Result ⊤ No)
     → Some dev ≡ find_device front device
@@ -434,9 +270,7 @@ serves_set_trigger front a told' device name dev r e c =
     (settles front (Said (Ok (SetTrig device name))) r refl) c (moved r)
   where
     moved : (r : Result ⊤ No) → Moves front a (Said (Ok (SetTrig device name))) (reply_by r) (state told' a.client a.traces)
-    moved (Ok done) = (refl, refl)
-    moved (Err (NoErrno e)) = (refl, refl)
-    moved (Err NoMem) = (refl, refl)
+    moved r = search rules
 
 -- ---- SET
 
@@ -450,9 +284,7 @@ serves_set_buffers front a client' traces' device n dev r e c changed t =
   where
     moved : (r : Result ⊤ No) → client' ≡ client_by (with_count dev n) a.client r
         → Moves front a (Said (Ok (SetBuffers device n))) (reply_by r) (state a.told client' traces')
-    moved (Ok done) changed = record { dev = dev; named = sym e; moves = (changed, t) }
-    moved (Err (NoErrno x)) changed = (changed, t)
-    moved (Err NoMem) changed = (changed, t)
+    moved r changed = search rules
 
 -- ---- GETTRIG
 
@@ -470,9 +302,7 @@ serves_ev_open front a b device dev r e c changed t =
     serves_at front a b (EvOpen device) dev (reply_by r) e (rw (sym e) tt) (settles front (Said (Ok (EvOpen device))) r refl) c (moved r changed)
   where
     moved : (r : Result ⊤ No) → b.client ≡ client_by (with_holding dev) a.client r → Moves front a (Said (Ok (EvOpen device))) (reply_by r) b
-    moved (Ok done) changed = record { dev = dev; named = sym e; moves = (changed, t) }
-    moved (Err (NoErrno x)) changed = (changed, t)
-    moved (Err NoMem) changed = (changed, t)
+    moved r changed = search rules
 
 -- ---- EVCLOSE
 
@@ -483,9 +313,7 @@ serves_ev_close front a b device dev r e c changed t =
     serves_at front a b (EvClose device) dev (reply_by r) e (rw (sym e) tt) (settles front (Said (Ok (EvClose device))) r refl) c (moved r changed)
   where
     moved : (r : Result ⊤ No) → b.client ≡ client_by (without_holding dev) a.client r → Moves front a (Said (Ok (EvClose device))) (reply_by r) b
-    moved (Ok done) changed = record { dev = dev; named = sym e; moves = (changed, t) }
-    moved (Err (NoErrno x)) changed = (changed, t)
-    moved (Err NoMem) changed = (changed, t)
+    moved r changed = search rules
 
 -- ---- EVREAD
 
@@ -502,9 +330,7 @@ output_is : (front : Front) (client : ClientRecord) (device : List ℕ) (asked d
     → (m : Machine)
     → act front m client (Said (Ok (ReadBuf device asked))) ≡ where_known false m client dev (read_at front m client asked (place_of dev client.seats))
 unfolding act
-output_is front client device asked dev e output m =
-    ap (λ o. at_device m client (read_buffer_at front m client asked) o) e
-    ∙ ap (λ (b : Bool). where_known (not b) m client dev (read_at front m client asked (place_of dev client.seats))) output
+output_is front client device asked dev e output m = cc
 
 pub serves_unread : (front : Front) (a : State) (device : List ℕ) (asked dev : ℕ) (e : Errno)
     → find_device front device ≡ Some dev → is_output (kind_at front dev) ≡ true → (e ≡ ENODEV) ⊎ (e ≡ ENOSYS)
@@ -518,8 +344,7 @@ serves_unread front a device asked dev e named output one u = record {
 }
   where
     either : (e ≡ ENODEV) ⊎ (e ≡ ENOSYS) → (Refusal e ≡ Refusal ENODEV) ⊎ (Refusal e ≡ Refusal ENOSYS)
-    either (inl x) = inl (ap Refusal x)
-    either (inr x) = inr (ap Refusal x)
+    either h1 = search rules
 
     by : (told : Option Machine) → ((d : ClientRecord) (o : Acted) → IfSome told (λ m. Comes m d (where_known false m d dev o) (Refusal e) told d))
         → IfSome told (λ m. Acts front m a.client (Said (Ok (ReadBuf device asked))) (Refusal e) told a.client)
@@ -539,46 +364,15 @@ streamed_at front m client o device payload e = ap (λ x. at_device m client (wr
 pub serves_streamed : (front : Front) (a b : State) (device payload : List ℕ) (dev : ℕ) (r : Result ℕ No) → Some dev ≡ find_device front device
     → IfSome a.told (λ m. Comes m a.client (write_buffer_at front m a.client payload dev) (taken_by r) b.told a.client)
     → b.client ≡ a.client → b.traces ≡ a.traces → IfOk r (λ taken. taken ≤ length payload) → Serves front a (Streamed device payload) (taken_by r) b
-serves_streamed front a b device payload dev r e c d t within = record {
-  alone = rw (sym e) tt;
-  formed = formed r within;
-  exact =
-      rw d (all_comes front a.told b.told a.client a.client _ (λ m. write_buffer_at front m a.client payload dev) (taken_by r)
-      (λ m. streamed_at front m a.client (Some dev) device payload e) c);
-  moves = moved r;
-}
-  where
-    formed : (r : Result ℕ No) → IfOk r (λ taken. taken ≤ length payload) → AnswersAs front (Streamed device payload) (taken_by r)
-    formed (Ok taken) within = (taken, within, refl)
-    formed (Err (NoErrno e)) within = tt
-    formed (Err NoMem) within = tt
-
-    moved : (r : Result ℕ No) → Moves front a (Streamed device payload) (taken_by r) b
-    moved (Ok taken) = (d, t)
-    moved (Err (NoErrno e)) = (d, t)
-    moved (Err NoMem) = (d, t)
+serves_streamed front a b device payload dev r e c d t within = search (rules, streamed_at)
 
 pub serves_unstreamed : (front : Front) (a : State) (device payload : List ℕ) → None ≡ find_device front device
     → Serves front a (Streamed device payload) (Refusal ENODEV) a
-serves_unstreamed front a device payload e = record {
-  alone = rw (sym e) (inl refl);
-  formed = tt;
-  exact = all_refused front a.told a.client _ ENODEV (λ m. streamed_at front m a.client None device payload e);
-  moves = (refl, refl);
-}
+serves_unstreamed front a device payload e = search (rules, streamed_at)
 
 -- ---- the room for an answer
-
-unchanged : (before after : List ℕ) (capacity capacity' : ℕ) → after ≡ before → capacity ≤ capacity' → length before + SHORT_ANSWER ≤ capacity
-    → length after + SHORT_ANSWER ≤ capacity'
-unchanged before after capacity capacity' same grows room =
-    let long : length after ≡ length before = ap (λ (xs : List ℕ). length xs) same in
-    omega (arith, long, grows, room)
 
 -- after a take there is room for the rest of READBUF's answer, if there was before
 pub room_after : (front : Front) (dev asked : ℕ) (x y : Answering) (capacity capacity' : ℕ) (took : Result Took Mem) → ReadAt front dev asked x y took
     → capacity ≤ capacity' → length x.out + SHORT_ANSWER ≤ capacity → HasRoomAfter took y.out capacity'
-room_after front dev asked x y capacity capacity' (Ok Scan) read grows room = tt
-room_after front dev asked x y capacity capacity' (Ok Empty) read grows room = unchanged x.out y.out capacity capacity' read.0 grows room
-room_after front dev asked x y capacity capacity' (Ok Gone) read grows room = unchanged x.out y.out capacity capacity' read.0 grows room
-room_after front dev asked x y capacity capacity' (Err mem) read grows room = unchanged x.out y.out capacity capacity' read.0 grows room
+room_after front dev asked x y capacity capacity' took read grows room = search rules

@@ -1,7 +1,6 @@
 -- What a SET answers.
-use Rattle.std.proofs.Common.{◌≡◌, ℕ, ◌≤◌, Bool, true, Option, Some, None, IfSome, refl, sym, ◌∙◌, arith}
-use Rattle.std.proofs.lemmas.Bool.Decides.{nat_tests}
-use Rattle.iiod_commands.specs.Acts.{is_buffers_count, set_buffers_at, zero_reply}
+use Rattle.std.proofs.Common.{◌≡◌, ℕ, ◌≤◌, Bool, true, Option, IfSome, rules}
+use Rattle.iiod_commands.specs.Acts.{set_buffers_at, zero_reply}
 use Rattle.iiod_commands.specs.Client.{ClientRecord, with_count}
 use Rattle.iio_core.specs.Machine.{Machine, is_plugged}
 use Rattle.iiod_commands.specs.Performs.{Comes}
@@ -10,7 +9,4 @@ use Rattle.iiod_commands.specs.Performs.{Comes}
 pub buffers_set : (told : Option Machine) (client client' : ClientRecord) (dev n : ℕ) (plugged : Bool) → IfSome told (λ m. plugged ≡ is_plugged m dev)
     → plugged ≡ true
     → 1 ≤ n → n ≤ 64 → client' ≡ with_count dev n client → IfSome told (λ m. Comes m client (set_buffers_at m client n dev) zero_reply told client')
-buffers_set None client client' dev n plugged p t some few e = tt
-buffers_set (Some m) client client' dev n plugged p t some few e =
-    let count : is_buffers_count n ≡ true = grind (arith, nat_tests) in
-    (m, refl, rw (sym p ∙ t, count, e) refl)
+buffers_set told client client' dev n plugged p t some few e = search rules

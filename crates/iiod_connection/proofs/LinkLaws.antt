@@ -1,37 +1,25 @@
 -- What was heard over a link so far, and at its end.
-use Rattle.std.proofs.Common.{◌≡◌, ℕ, List, [], ◌++◌, take, drop, Option, Some, None, IfSome, Err, Ok, refl, sym, ap, subst, ◌∙◌, append_assoc}
+use Rattle.std.proofs.Common.{◌≡◌, ℕ, List, [], ◌++◌, take, Option, IfSome, Err, Ok, sym, subst, arith, rules}
+use Rattle.std.proofs.lemmas.Grind.{common_steps}
 use Rattle.std.specs.Prelude.{⊤}
 use Rattle.iio_io.specs.Bytes.{Takes}
 use Rattle.iio_core.specs.Front.{Front}
 use Rattle.iiod_connection.specs.declared.session_end.SessionEnd.{SessionEnd}
-use Rattle.iiod_connection.specs.declared.session_end.SessionEnd.TheVariants.{Eof, Ended, LinkFault, Memory}
 use Rattle.iiod_connection.specs.Place.{Place}
 use Rattle.iiod_connection.specs.SessionEnd.{Ends}
 use Rattle.iiod_connection.specs.Talks.{IsCut, IsLast, SendsAll, SoFar, Talks, Turns}
-use Rattle.iiod_connection.proofs.TalkLaws.{append_nil, sends_none, sends_on, take_drop, turns_cut}
+use Rattle.iiod_connection.proofs.TalkLaws.{append_nil, sends_none, sends_on, turns_cut}
 
 cut_none : (left : Option (List ℕ)) → IsCut left [] left
-cut_none None = tt
-cut_none (Some xs) = (xs, refl, refl)
+cut_none left = search rules
 
 pub so_none : (front : Front) (a : Place) (left written : Option (List ℕ)) → SoFar front a left written a left written
 so_none front a left written = record { heard = []; sends = sends_none front a written; cut = cut_none left }
 
--- what a recv took of the bytes that are left
-took : (more piece : List ℕ) (n : ℕ) (mid new : Option (List ℕ)) → mid ≡ Some more → IfSome mid (λ xs. Takes xs piece n new) → Takes more piece n new
-took more piece n mid new e t = subst (λ (o : Option (List ℕ)). IfSome o (λ xs. Takes xs piece n new)) e t
-
 -- one more recv
 cut_more_of : (left mid right : Option (List ℕ)) (heard piece : List ℕ) (n : ℕ) → IsCut left heard mid → IfSome mid (λ xs. Takes xs piece n right)
     → IsCut left (heard ++ take n piece) right
-cut_more_of None mid right heard piece n c t = tt
-cut_more_of (Some xs) mid right heard piece n (more, whole, rest) t =
-    let k = took more piece n mid right rest t in (
-      drop n more,
-      whole ∙ ap (λ (zs : List ℕ). heard ++ zs) (take_drop n more) ∙ sym (append_assoc heard (take n more) (drop n more))
-          ∙ ap (λ (zs : List ℕ). (heard ++ zs) ++ drop n more) (sym k.bytes),
-      k.rest,
-    )
+cut_more_of left mid right heard piece n c t = grind (arith, common_steps)
 
 pub so_more : (front front2 : Front) (a m b : Place) (left written mid mid2 right right2 new new2 : Option (List ℕ)) (piece : List ℕ) (n : ℕ) (once : ⊤)
     → front2 ≡ front
@@ -47,23 +35,11 @@ so_more front front2 a m b left written mid mid2 right right2 new new2 piece n o
       cut = subst (λ (o : Option (List ℕ)). IsCut left (s.heard ++ take n piece) o) (sym f) (cut_more_of left mid right s.heard piece n s.cut t);
     }
 
--- a prefix of what came was heard
-hears_front : (left right : Option (List ℕ)) (bytes p q : List ℕ) → bytes ≡ p ++ q → IsCut left bytes right
-    → IfSome left (λ xs. (more : List ℕ) × (xs ≡ p ++ more))
-hears_front None right bytes p q f c = tt
-hears_front (Some xs) right bytes p q f (more, whole, rest) = (q ++ more, whole ∙ ap (λ (zs : List ℕ). zs ++ more) f ∙ append_assoc p q more)
-
 -- a turn that ended
 ends_so : (front : Front) (a b : Place) (bytes : List ℕ) (left written right new new2 : Option (List ℕ)) (end : SessionEnd) → IsCut left bytes right
     → Turns front a bytes written b new2 (Err end)
     → (c : Place) × Ends (Talks front a) end left written new new2 c × IsLast end c b
-ends_so front a b bytes left written right new new2 Eof cut u = absurd u
-ends_so front a b bytes left written right new new2 Ended cut (p, q, f, u, ended) =
-    (b, record { heard = p; said = u.said; says = u.talks; hears = hears_front left right bytes p q f cut; sends = u.wrote; leaves = ended }, refl)
-ends_so front a b bytes left written right new new2 LinkFault cut (p, q, x, f, talks, w) =
-    (b, record { heard = p; said = x; says = talks; hears = hears_front left right bytes p q f cut; sends = w; leaves = tt }, refl)
-ends_so front a b bytes left written right new new2 Memory cut (p, q, c, f, u) =
-    (c, record { heard = p; said = u.said; says = u.talks; hears = hears_front left right bytes p q f cut; sends = u.wrote; leaves = tt }, tt)
+ends_so front a b bytes left written right new new2 end cut u = grind (arith, common_steps)
 
 pub so_end : (front front2 : Front) (a m b : Place) (left written mid mid2 right right2 new new2 : Option (List ℕ)) (piece : List ℕ) (n : ℕ) (end : SessionEnd)
     → front2 ≡ front

@@ -1,20 +1,17 @@
 -- Feeds one after another.
-use Rattle.std.proofs.Common.{◌≡◌, ℕ, zero, suc, ◌<◌, ◌≤◌, ◌-◌, List, [], ◌∷◌, ◌++◌, length, take, drop, Option, Some, None, IfSome, Result, Ok, Err, refl, sym, ap, subst, ◌∙◌, arith, append_assoc}
+use Rattle.std.proofs.Common.{◌≡◌, ℕ, zero, suc, ◌<◌, ◌≤◌, ◌-◌, List, [], ◌∷◌, ◌++◌, length, take, drop, Option, Some, None, IfSome, Result, Ok, Err, refl, sym, ap, subst, ◌∙◌, arith, append_assoc, rules}
+use Rattle.std.proofs.lemmas.Grind.{common_steps}
 use Rattle.std.specs.Prelude.{true, false, ⊤, is_err, OnErr, OnOk}
 use Rattle.std.proofs.Math.Seq.{take-add}
-use Rattle.std.proofs.lemmas.List.Quantifiers.{position-Some}
-use Rattle.iiod_grammar.specs.Command.{ReadBuf}
 use Rattle.iiod_grammar.specs.Scans.{scan_on}
-use Rattle.iiod_grammar.specs.Stream.{Item, Said}
+use Rattle.iiod_grammar.specs.Stream.{Item}
 use Rattle.iiod_session.specs.declared.going.Going.{Going}
-use Rattle.iiod_session.specs.declared.going.Going.TheVariants.{On, Waits}
+use Rattle.iiod_session.specs.declared.going.Going.TheVariants.{On}
 use Rattle.iiod_session.specs.declared.going.Going.TheVariants as going
 use Rattle.iiod_commands.specs.declared.manner.Manner.{Manner}
 use Rattle.iiod_commands.specs.declared.manner.Manner.TheVariants.{Server}
 use Rattle.iiod_commands.specs.Performs.{IsReadOf}
 use Rattle.iiod_session.specs.Run.{Feeds, feeding}
-use Rattle.iio_desc.specs.Description.{no_shape}
-use Rattle.iio_desc.specs.Kind.{Input}
 use Rattle.iio_core.specs.Front.{Front, find_device}
 use Rattle.iio_io.specs.Bytes.{WritesPart}
 use Rattle.iiod_connection.specs.declared.session_end.SessionEnd.{SessionEnd}
@@ -35,25 +32,13 @@ talk_more front a b h x bytes text going c t f = record { feeds = suc t.feeds; t
 
 -- what was written, followed by more
 pub wrote_more : (old mid new : Option (List ℕ)) (x text : List ℕ) → Wrote old x mid → Wrote mid text new → Wrote old (x ++ text) new
-wrote_more None mid new x text w v = tt
-wrote_more (Some ys) mid new x text w v =
-    let k = subst (λ (m : Option (List ℕ)). Wrote m text new) w v in
-    k ∙ ap (λ (zs : List ℕ). Some zs) (append_assoc ys x text)
+wrote_more old mid new x text w v = grind (arith, common_steps)
 
 pub wrote_part : (old mid new : Option (List ℕ)) (x text : List ℕ) → Wrote old x mid → WrotePart mid text new → WrotePart old (x ++ text) new
-wrote_part None mid new x text w v = tt
-wrote_part (Some ys) mid new x text w v =
-    let k = subst (λ (m : Option (List ℕ)). WrotePart m text new) w v in
-    record {
-      sent = x ++ k.sent;
-      rest = k.rest;
-      whole = ap (λ (zs : List ℕ). x ++ zs) k.whole ∙ sym (append_assoc x k.sent k.rest);
-      appended = k.appended ∙ ap (λ (zs : List ℕ). Some zs) (append_assoc ys x k.sent);
-    }
+wrote_part old mid new x text w v = grind (arith, common_steps)
 
 pub wrote_none : (old : Option (List ℕ)) → Wrote old [] old
-wrote_none None = tt
-wrote_none (Some ys) = ap (λ (zs : List ℕ). Some zs) (sym (append_nil ys))
+wrote_none old = search rules
 
 pub take_drop : (n : ℕ) (xs : List ℕ) → xs ≡ take n xs ++ drop n xs
 take_drop zero xs = refl
@@ -68,39 +53,26 @@ part_of (Some ys) new text w = record { sent = take w.count text; rest = drop w.
 
 pub feeds_once : (front : Front) (m : Manner) (a b : Place) (bytes before after text : List ℕ) (going : Going) → m ≡ Server → before ≡ [] → after ≡ text
     → Feeds m front (feeding a.state (scan_on a.stream bytes) before) (feeding b.state b.stream after) going → FeedsOnce front a bytes text going b
-feeds_once front m a b bytes before after text going e d f fed = record {
-  feeds =
-      subst (λ (xs : List ℕ). Feeds Server front (feeding a.state (scan_on a.stream bytes) []) (feeding b.state b.stream xs) going) f
-      (subst (λ (xs : List ℕ). Feeds Server front (feeding a.state (scan_on a.stream bytes) xs) (feeding b.state b.stream after) going) d
-      (subst (λ (x : Manner). Feeds x front (feeding a.state (scan_on a.stream bytes) before) (feeding b.state b.stream after) going) e fed));
-}
+feeds_once front m a b bytes before after text going e d f fed = search rules
 
 read_within : (front : Front) (dev : ℕ) (item : Item) → IsReadOf front dev item → dev < length front.devices
 unfolding find_device
-read_within front dev (Said (Ok (ReadBuf device asked))) r = (position-Some _ front.devices dev (record { name = []; kind = Input; shape = no_shape }) r).0
-read_within front dev item r = absurd r
+read_within front dev item r = search rules
 
 pub stands_by : (front : Front) (a b : Place) (bytes text : List ℕ) (going : Going) → FeedsOnce front a bytes text going b → (going ≡ On → b.stream.items ≡ [])
     → StandsBy front going b
-stands_by front a b bytes text On f all = all refl
-stands_by front a b bytes text (Waits dev) f all = let w = f.feeds.carried.stands in read_within front dev w.item w.read
-stands_by front a b bytes text going.Ended f all = f.feeds.carried.stands.1
+stands_by front a b bytes text going f all = search (rules, read_within)
 
 pub on_err : {A E : Type 0} (r : Result A E) (P : Type 0) → is_err r ≡ true → OnErr r P → P
-on_err (Ok x) P e p = absurd (cc)
-on_err (Err x) P e p = p
+on_err r P e p = search rules
 
 pub on_ok : {A E : Type 0} (r : Result A E) (P : Type 0) → is_err r ≡ false → OnOk r P → P
-on_ok (Ok x) P e p = p
-on_ok (Err x) P e p = absurd (cc)
+on_ok r P e p = search rules
 
 -- ---- talks one after another
 
 talks_by : (front : Front) (n : ℕ) (a b c : Place) (h x h2 x2 : List ℕ) → Talks front a h x b → Talk n front b h2 x2 c → Talks front a (h ++ h2) (x ++ x2) c
-talks_by front zero a b c h x h2 x2 t u =
-    subst (λ (p : Place). Talks front a (h ++ h2) (x ++ x2) p) (sym u.2)
-    (subst (λ (ys : List ℕ). Talks front a (h ++ h2) ys b) (sym (ap (λ ys. x ++ ys) u.1 ∙ append_nil x))
-    (subst (λ (ys : List ℕ). Talks front a ys x b) (sym (ap (λ ys. h ++ ys) u.0 ∙ append_nil h)) t))
+talks_by front zero a b c h x h2 x2 t u = search rules
 talks_by front (suc n) a b c h x h2 x2 t (mid, h3, x3, bytes, text, going, u, eh, ex, f) =
     let before = talks_by front n a b mid h x h3 x3 t u in
     let whole = talk_more front a mid (h ++ h3) (x ++ x3) bytes text going c before f in
@@ -142,8 +114,7 @@ once_err front a b bytes old new Eof s = absurd s
 once_err front a b bytes old new Ended s = absurd s
 
 pub cut_more : (bytes h part more p q : List ℕ) → bytes ≡ (h ++ part) ++ more → part ≡ p ++ q → bytes ≡ (h ++ p) ++ (q ++ more)
-cut_more bytes h part more p q e f =
-    e ∙ ap (λ (ys : List ℕ). (h ++ ys) ++ more) f ∙ ap (λ (ys : List ℕ). ys ++ more) (sym (append_assoc h p q)) ∙ append_assoc (h ++ p) q more
+cut_more bytes h part more p q e f = grind (arith, common_steps)
 
 -- some bytes were fed, and of the next ones not all
 pub turns_cut : (front : Front) (a m b : Place) (bytes h part more : List ℕ) (old mid new : Option (List ℕ)) (e : SessionEnd) → bytes ≡ (h ++ part) ++ more
@@ -194,6 +165,5 @@ pub part_err : (front front2 : Front) (a m b : Place) (bytes : List ℕ) (done u
     → Turns front a bytes old b new (Err e)
 part_err front front2 a m b bytes done until old mid new e same few t v =
     let part = take (until - done) (drop done bytes) in
-    let whole : bytes ≡ (take done bytes ++ part) ++ drop until bytes =
-    take_drop until bytes ∙ ap (λ (ys : List ℕ). ys ++ drop until bytes) (up_to bytes done until few) in
+    let whole : bytes ≡ (take done bytes ++ part) ++ drop until bytes = search (rules, take_drop, up_to) in
     turns_cut front a m b bytes (take done bytes) part (drop until bytes) old mid new e whole t (subst (λ (f : Front). Turns f m part mid b new (Err e)) same v)

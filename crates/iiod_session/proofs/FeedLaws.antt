@@ -1,14 +1,12 @@
 -- Items and answers one after another.
-use Rattle.std.proofs.Common.{◌≡◌, ◌≢◌, ℕ, List, [], ◌∷◌, ◌++◌, refl, sym, ap, ◌∙◌, append-nil, append_assoc}
-use Rattle.std.specs.List.{flat_map}
-use Rattle.std.proofs.lemmas.Grind.{flat_map-append}
+use Rattle.std.proofs.Common.{◌≡◌, ◌≢◌, ℕ, List, [], ◌∷◌, ◌++◌, refl, sym, ap, ◌∙◌, append-nil, arith, rules}
+use Rattle.std.proofs.lemmas.Grind.{common_steps}
 use Rattle.iiod_grammar.specs.Scans.{scan_on}
-use Rattle.iiod_grammar.specs.Stream.{Item, Scanned, AtEnd, items_from, scanner_after}
+use Rattle.iiod_grammar.specs.Stream.{Item, Scanned, AtEnd}
 use Rattle.iiod_reply.specs.Reply.{Reply, text_of}
 use Rattle.iiod_session.specs.declared.going.Going.{Going}
-use Rattle.iiod_session.specs.declared.going.Going.TheVariants.{On, Waits, Ended}
+use Rattle.iiod_session.specs.declared.going.Going.TheVariants.{On}
 use Rattle.iiod_commands.specs.declared.manner.Manner.{Manner}
-use Rattle.iio_text.specs.declared.errors.Errno.TheVariants.{EAGAIN}
 use Rattle.iiod_commands.specs.Client.{State}
 use Rattle.iio_core.specs.Front.{Front}
 use Rattle.iiod_session.specs.Given.{GivenIs}
@@ -33,28 +31,11 @@ module _ {S : Type 0} {Answered : S → Item → Reply → S → Type 0} where
   fed_none x = record { items = []; replies = []; heard = refl; next = refl; text = sym (append-nil x.out); run = refl }
 
   pub fed_then : (x y z : Feeding S) → FedBy Answered x y → FedBy Answered y z → FedBy Answered x z
-  fed_then x y z f g = record {
-    items = f.items ++ g.items;
-    replies = f.replies ++ g.replies;
-    heard = f.heard ∙ ap (λ (xs : List Item). f.items ++ xs) g.heard ∙ sym (append_assoc f.items g.items z.stream.items);
-    next = g.next ∙ f.next;
-    text =
-        g.text ∙ ap (λ (xs : List ℕ). xs ++ flat_map text_of g.replies) f.text ∙ append_assoc x.out (flat_map text_of f.replies) (flat_map text_of g.replies)
-        ∙ ap (λ (xs : List ℕ). x.out ++ xs) (sym (flat_map-append text_of f.replies g.replies));
-    run = run_then Answered x.state y.state z.state f.items g.items f.replies g.replies f.run g.run;
-  }
+  fed_then x y z f g = grind (arith, common_steps, run_then)
 
   -- ... with further bytes that aren't looked at
   pub fed_more : (x y : Feeding S) (bytes : List ℕ) → FedBy Answered x y → FedBy Answered (with_bytes bytes x) (with_bytes bytes y)
-  fed_more x y bytes f = record {
-    items = f.items;
-    replies = f.replies;
-    heard = ap (λ (xs : List Item). xs ++ items_from x.stream.next bytes) f.heard ∙ append_assoc f.items y.stream.items (items_from x.stream.next bytes)
-        ∙ ap (λ s. f.items ++ (y.stream.items ++ items_from s bytes)) (sym f.next);
-    next = ap (λ s. scanner_after s bytes) f.next;
-    text = f.text;
-    run = f.run;
-  }
+  fed_more x y bytes f = grind (arith, common_steps)
 
   -- one item
   pub fed_one : (x y : Feeding S) (item : Item) (reply : Reply)
@@ -72,18 +53,14 @@ module _ {S : Type 0} {Answered : S → Item → Reply → S → Type 0} where
 -- the scans that the seats gave follow from the answers
 given_then : (manner : Manner) (front : Front) (items : List Item) (replies : List Reply) (o a b : State) (left : Scanned) (going : Going)
     → Stands manner front a left b going → AreSeated a.client.seats a.traces → GivenIs front items replies o a → GivenIs front items replies o b
-given_then manner front items replies o a b left On s seated g = rw s.0 g
-given_then manner front items replies o a b left (Waits dev) s seated g = waiting_gives front items replies o a b s.item EAGAIN s.served.moves seated g
-given_then manner front items replies o a b left Ended s seated g = rw s.0 g
+given_then manner front items replies o a b left going s seated g = search (rules, waiting_gives)
 
 -- a feed, with what its seats gave
 pub feeds_given : (manner : Manner) (front : Front) (x y : Feeding State) (going : Going) → AreSeated x.state.client.seats x.state.traces
     → Carries manner front x y going → Feeds manner front x y going
 feeds_given manner front x y going seated c = record {
   carried = c;
-  given = given_then manner front c.fed.items c.fed.replies x.state c.mid y.state y.stream going c.stands
-      (run_gives manner front x.state c.mid c.fed.items c.fed.replies c.fed.run seated).0
-      (gives manner front x.state c.mid c.fed.items c.fed.replies c.fed.run seated);
+  given = search (rules, given_then, run_gives, gives);
 }
 
 module _ {S : Type 0} {Answered : S → Item → Reply → S → Type 0} {Unanswered : S → Item → S → Type 0} where
@@ -100,22 +77,7 @@ module _ {S : Type 0} {Answered : S → Item → Reply → S → Type 0} {Unansw
   pub feeds_more : (manner : Manner) (front : Front) (x y : Feeding S) (bytes : List ℕ) (going : Going) → going ≢ On
       → CarriesBy Answered Unanswered manner front x y going
       → CarriesBy Answered Unanswered manner front (with_bytes bytes x) (with_bytes bytes y) going
-  feeds_more manner front x y bytes going stops f =
-      feeds_of manner front (with_bytes bytes x) f.mid (with_bytes bytes y) going (fed_more x (record y { state = f.mid }) bytes f.fed)
-      (by going stops f.stands)
-    where
-      by : (going : Going) → going ≢ On → StandsBy Unanswered manner front f.mid y.stream y.state going
-          → StandsBy Unanswered manner front f.mid (scan_on y.stream bytes) y.state going
-      by On n s = absurd (n refl)
-      by (Waits dev) n s = record {
-        server = s.server;
-        item = s.item;
-        more = s.more ++ items_from y.stream.next bytes;
-        first = ap (λ (xs : List Item). xs ++ items_from y.stream.next bytes) s.first;
-        read = s.read;
-        served = s.served;
-      }
-      by Ended n s = (s.0, ap (λ x. scan_on x bytes) s.1 ∙ scan_end bytes)
+  feeds_more manner front x y bytes going stops f = grind (arith, common_steps, scan_end)
 
   -- if it goes on, nothing else happened
   pub feeds_on : (manner : Manner) (front : Front) (x y : Feeding S) → CarriesBy Answered Unanswered manner front x y On → FedBy Answered x y

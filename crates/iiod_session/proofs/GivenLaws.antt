@@ -1,25 +1,21 @@
 -- The scans that the seats gave are those that were answered.
-use Rattle.std.proofs.Common.{◌≡◌, ℕ, suc, zero, ◌==◌, nat_lt, Bool, true, false, List, [], ◌∷◌, ◌++◌, length, length-append, refl, sym, ap, ◌∙◌, Option, Some, None, option_map, inl, inr, Ok, arith, ℤ}
+use Rattle.std.proofs.Common.{◌≡◌, ℕ, suc, zero, ◌==◌, Bool, true, false, List, [], ◌∷◌, ◌++◌, length, refl, sym, ap, ◌∙◌, Option, Some, None, option_map, Ok, arith, ℤ, rules}
+use Rattle.std.proofs.lemmas.Grind.{common_steps}
 use Rattle.std.proofs.lemmas.Bool.{eqb-true}
-use Rattle.std.proofs.lemmas.List.{length-map}
-use Rattle.std.specs.Prelude.{◌⊎◌, MatchBool, if◌then◌else◌, remove, slice_get, slice_set}
+use Rattle.std.specs.Prelude.{if◌then◌else◌, remove, slice_get, slice_set}
 use Rattle.std.proofs.Math.ListN.{length-set}
 use Rattle.iio_text.specs.declared.errors.Errno.{Errno}
-use Rattle.iio_text.specs.declared.errors.Errno.TheVariants.{EAGAIN, EBADF, ENODEV, ENOSYS}
-use Rattle.iio_desc.specs.Kind.{is_output}
 use Rattle.iiod_grammar.specs.Command.{Open, Close, ReadBuf, Remask, SetBuffers, EvOpen, EvClose}
 use Rattle.iiod_grammar.specs.Stream.{Item, Said, End}
-use Rattle.iiod_reply.specs.Reply.{Reply, Number, Refusal, Block, NoMemory}
+use Rattle.iiod_reply.specs.Reply.{Reply, Number, Refusal, NoMemory}
 use Rattle.iiod_commands.specs.declared.client.Client.{Client}
 use Rattle.iiod_commands.specs.declared.manner.Manner.{Manner}
-use Rattle.iiod_commands.specs.Acts.{zero_reply}
-use Rattle.iiod_commands.specs.Client.{SeatState, ClientRecord, IsClient, State, seat_state_of, seat_state_remasked, seats_of, trace_of, traces_of, has_seat, place_of}
-use Rattle.iio_core.specs.Front.{Front, find_device, kind_at, size_at}
+use Rattle.iiod_commands.specs.Client.{SeatState, ClientRecord, IsClient, State, seat_state_remasked, seats_of, traces_of, has_seat, place_of}
+use Rattle.iio_core.specs.Front.{Front, find_device}
 use Rattle.iiod_session.specs.Given.{GivenIs, given_after, given_by, given_in, is_named, trace_at}
-use Rattle.iiod_commands.specs.Moves.{Moves, ReadMoves, ReadsAs, ReadsAt, ReadsBy, ReadsFrom}
-use Rattle.iiod_commands.specs.Reading.{Reads}
+use Rattle.iiod_commands.specs.Moves.{Moves, ReadMoves, ReadsAt, ReadsBy, ReadsFrom}
 use Rattle.iiod_session.specs.Run.{Run}
-use Rattle.iiod_commands.specs.Seat.{SeatRecord, Trace, after_nothing, after_scans, first_trace}
+use Rattle.iiod_commands.specs.Seat.{SeatRecord, Trace, first_trace}
 use Rattle.iiod_commands.proofs.ApartLaws.{AreApart, IsFirst, apart_by, apart_kept, apart_last, apart_under, none_has, place_first}
 
 -- no two seats are at one device, and each has its trace
@@ -30,12 +26,7 @@ pub record AreSeated (seats : List SeatState) (traces : List (Option Trace)) : T
 module _ {S : Type 0} (seen : S → SeatRecord) where
   -- the seats of a connection are apart, and each has its trace
   pub seated : (front : Front) (d : Client S) → IsClient seen front d → AreSeated (seats_of seen d.held.items) (traces_of seen d.held.items)
-  seated front d is =
-      record {
-        apart = apart_by (seats_of seen d.held.items) is.apart;
-        told = length-map d.held.items (trace_of seen)
-            ∙ sym (length-map d.held.items (seat_state_of seen));
-      }
+  seated front d is = grind (arith, common_steps, apart_by)
 
 -- ---- one more seat
 
@@ -49,8 +40,7 @@ trace_last dev (x ∷ xs) (y ∷ ys) s t l h = by (λ none. trace_last dev xs ys
   where
     by : (has_seat dev xs ≡ false → trace_at dev (xs ++ s ∷ []) (ys ++ t ∷ []) ≡ (if s.dev == dev then t else None)) → (b : Bool) → (x.dev == dev) ≡ b
         → trace_at dev ((x ∷ xs) ++ s ∷ []) ((y ∷ ys) ++ t ∷ []) ≡ (if s.dev == dev then t else None)
-    by rest true e = let n : true ≡ false = rw e at h in cc
-    by rest false e = rw e (rest (rw e at h))
+    by rest b e = search rules
 
 trace_before : (dev : ℕ) (seats : List SeatState) (traces : List (Option Trace)) (s : SeatState) (t : Option Trace) → length traces ≡ length seats
     → (s.dev == dev) ≡ false
@@ -68,8 +58,7 @@ no_trace dev (x ∷ xs) [] h = refl
 no_trace dev (x ∷ xs) (y ∷ ys) h = by (λ none. no_trace dev xs ys none) (x.dev == dev) refl
   where
     by : (has_seat dev xs ≡ false → trace_at dev xs ys ≡ None) → (b : Bool) → (x.dev == dev) ≡ b → trace_at dev (x ∷ xs) (y ∷ ys) ≡ None
-    by rest true e = let c : true ≡ false = rw e at h in cc
-    by rest false e = rw e (rest (rw e at h))
+    by rest b e = search rules
 
 same_test : (a b c : ℕ) → (a == b) ≡ true → (a == c) ≡ (b == c)
 same_test a b c e = ap (λ n. n == c) (eqb-true a b e)
@@ -100,11 +89,7 @@ trace_kept k dev (suc i) (x ∷ xs) (y ∷ ys) f e = ap (λ z. if x.dev == dev t
 
 length_kept : (i : ℕ) (seats : List SeatState) (traces : List (Option Trace)) → length traces ≡ length seats
     → length (remove traces i) ≡ length (remove seats i)
-length_kept i [] [] l = by i
-  where
-    by : (i : ℕ) → length (remove (let none : List (Option Trace) = [] in none) i) ≡ length (remove (let none : List SeatState = [] in none) i)
-    by zero = refl
-    by (suc i) = refl
+length_kept i [] [] l = grind (arith, common_steps)
 length_kept i [] (y ∷ ys) l = absurd (omega arith)
 length_kept i (x ∷ xs) [] l = absurd (omega arith)
 length_kept zero (x ∷ xs) (y ∷ ys) l = omega arith
@@ -120,9 +105,7 @@ trace_set k dev i [] traces trace trace' f g e = absurd f
 trace_set k dev zero (x ∷ xs) [] trace trace' f g e = cc
 trace_set k dev (suc i) (x ∷ xs) [] trace trace' f g e = cc
 trace_set k dev zero (x ∷ xs) (y ∷ ys) trace trace' f g e = let here : (x.dev == dev) ≡ true = same_test x.dev k dev f ∙ e in (rw here (cc), rw here refl)
-trace_set k dev (suc i) (x ∷ xs) (y ∷ ys) trace trace' f g e =
-    let here : (x.dev == dev) ≡ false = ap (λ n. x.dev == n) (sym (eqb-true k dev e)) ∙ f.0 in
-    let more = trace_set k dev i xs ys trace trace' f.1 g e in (rw here more.0, rw here more.1)
+trace_set k dev (suc i) (x ∷ xs) (y ∷ ys) trace trace' f g e = search (rules, trace_set k dev i xs ys trace trace' f.1 g e)
 
 trace_other : (k dev i : ℕ) (seats : List SeatState) (traces : List (Option Trace)) (trace' : Option Trace) → IsFirst k seats i → (k == dev) ≡ false
     → trace_at dev seats (slice_set traces i trace') ≡ trace_at dev seats traces
@@ -150,33 +133,18 @@ named_is front device k dev e = rw e refl
 -- nothing changes at the seats
 same : (front : Front) (item : Item) (reply : Reply) (seats seats' : List SeatState) (traces traces' : List (Option Trace)) → seats' ≡ seats → traces' ≡ traces
     → ((dev : ℕ) (g : List (List ℕ)) → given_by front dev item reply g ≡ g) → AreSeated seats traces → Keeps front item reply seats traces seats' traces'
-same front item reply seats seats' traces traces' s t gives a =
-    rw (s, t) (a, λ given is dev x e. is dev x e ∙ sym (gives dev (given dev)))
+same front item reply seats seats' traces traces' s t gives a = search rules
 
 -- a seat that begins has given nothing
 none_given : (y : Option Trace) (x : Trace) → y ≡ option_map (λ (z : Trace). first_trace) y → y ≡ Some x → x.given ≡ []
-none_given None x f e = cc
-none_given (Some y) x f e = let first : Some x ≡ Some first_trace = sym e ∙ f in let here : x ≡ first_trace = cc in ap (λ (z : Trace). z.given) here
+none_given y x f e = cc
 
 opened : (front : Front) (device text : List ℕ) (samples : ℕ) (cyclic : Bool) (n : ℤ) (s : SeatState) (t : Option Trace) (seats : List SeatState)
     (traces : List (Option Trace))
     → find_device front device ≡ Some s.dev → place_of s.dev seats ≡ None → t ≡ option_map (λ (x : Trace). first_trace) t → AreSeated seats traces
     → Keeps front (Said (Ok (Open device samples text cyclic))) (Number n) seats traces (seats ++ s ∷ []) (traces ++ t ∷ [])
-opened front device text samples cyclic n s t seats traces named free fresh a = (
-  record {
-    apart = apart_last seats s a.apart (none_has s.dev seats free);
-    told = omega (arith, length-append traces (t ∷ []), length-append seats (s ∷ []), a.told);
-  },
-  λ given is dev x e. by given is dev x e (s.dev == dev) refl,
-)
-  where
-    by : (given : ℕ → List (List ℕ)) → IsTold given seats traces → (dev : ℕ) (x : Trace) → trace_at dev (seats ++ s ∷ []) (traces ++ t ∷ []) ≡ Some x
-        → (b : Bool) → (s.dev == dev) ≡ b → x.given ≡ given_by front dev (Said (Ok (Open device samples text cyclic))) (Number n) (given dev)
-    by given is dev x e true here =
-        let free : has_seat dev seats ≡ false = ap (λ k. has_seat k seats) (sym (eqb-true s.dev dev here)) ∙ none_has s.dev seats free in
-        let last : t ≡ Some x = ap (λ (b : Bool). if b then t else None) (sym here) ∙ sym (trace_last dev seats traces s t a.told free) ∙ e in
-        rw (named, here) (none_given t x fresh last)
-    by given is dev x e false here = rw (named, here) (is dev x (sym (trace_before dev seats traces s t a.told here) ∙ e))
+opened front device text samples cyclic n s t seats traces named free fresh a =
+    grind (arith, common_steps, apart_last, none_has, given_by, has_seat, trace_last, trace_before)
 
 closed : (front : Front) (device : List ℕ) (n : ℤ) (k i : ℕ) (seats : List SeatState) (traces : List (Option Trace)) → place_of k seats ≡ Some i
     → AreSeated seats traces
@@ -198,8 +166,7 @@ trace_under : (dev i : ℕ) (seats : List SeatState) (traces : List (Option Trac
 trace_under dev i [] traces s s' here same = cc
 trace_under dev zero (x ∷ xs) [] s s' here same = refl
 trace_under dev (suc i) (x ∷ xs) [] s s' here same = refl
-trace_under dev zero (x ∷ xs) (t ∷ ts) s s' here same =
-    let one : s ≡ x = cc in ap (λ (n : ℕ). if n == dev then t else trace_at dev xs ts) (same ∙ ap (λ (b : SeatState). b.dev) one)
+trace_under dev zero (x ∷ xs) (t ∷ ts) s s' here same = cc
 trace_under dev (suc i) (x ∷ xs) (t ∷ ts) s s' here same = ap (λ (z : Option Trace). if x.dev == dev then t else z) (trace_under dev i xs ts s s' here same)
 
 -- the trace of a seat
@@ -230,56 +197,16 @@ remasked front device text n i s s' t seats traces named at here dev_same fresh 
 
 -- ---- READBUF
 
-scans_given : (scans : List (List ℕ)) (g : List (List ℕ)) (trace trace' : Option Trace) → trace' ≡ option_map (after_scans scans) trace
-    → ((x : Trace) → trace ≡ Some x → x.given ≡ g) → (x : Trace) → trace' ≡ Some x → x.given ≡ g ++ scans
-scans_given scans g None trace' f is x e = let n : None ≡ Some x = sym f ∙ e in cc
-scans_given scans g (Some y) trace' f is x e =
-    let here : Some (after_scans scans y) ≡ Some x = sym f ∙ e in
-    let now : after_scans scans y ≡ x = cc in
-    ap (λ (z : Trace). z.given) (sym now) ∙ ap (λ gs. gs ++ scans) (is y refl)
-
-nothing_given : (gone : Bool) (g : List (List ℕ)) (trace trace' : Option Trace) → trace' ≡ option_map (after_nothing gone) trace
-    → ((x : Trace) → trace ≡ Some x → x.given ≡ g) → (x : Trace) → trace' ≡ Some x → x.given ≡ g
-nothing_given gone g None trace' f is x e = let n : None ≡ Some x = sym f ∙ e in cc
-nothing_given gone g (Some y) trace' f is x e =
-    let here : Some (after_nothing gone y) ≡ Some x = sym f ∙ e in
-    let now : after_nothing gone y ≡ x = cc in
-    ap (λ (z : Trace). z.given) (sym now) ∙ is y refl
-
-block_given : (want : ℕ) (scans : List (List ℕ)) (g : List (List ℕ)) (trace trace' : Option Trace) → Reads want scans trace trace'
-    → ((x : Trace) → trace ≡ Some x → x.given ≡ g) → (x : Trace) → trace' ≡ Some x → x.given ≡ g ++ scans
-block_given want scans g trace trace' r is x e = elim r.grown [
-  | inl h ↦ scans_given scans g trace trace' h.1 is x e
-  | inr h ↦ nothing_given h.0 (g ++ scans) (option_map (after_scans scans) trace) trace' h.1
-      (scans_given scans g trace (option_map (after_scans scans) trace) refl is) x e
-]
-
--- at the device itself
-reads_given : (front : Front) (device : List ℕ) (bytes channels mask want asked dev : ℕ) (reply : Reply) (g : List (List ℕ)) (trace trace' : Option Trace)
-    → is_named front device dev ≡ true
-    → ReadsAs channels mask want asked reply trace trace' → ((x : Trace) → trace ≡ Some x → x.given ≡ g) → (x : Trace) → trace' ≡ Some x
-    → x.given ≡ given_by front dev (Said (Ok (ReadBuf device bytes))) reply g
-reads_given front device bytes channels mask want asked dev (Block c m scans b) g trace trace' named r is x e =
-    rw named (block_given want scans g trace trace' r.3 is x e)
-reads_given front device bytes channels mask want asked dev (Refusal EAGAIN) g trace trace' named r is x e = nothing_given false g trace trace' r is x e
-reads_given front device bytes channels mask want asked dev (Refusal ENODEV) g trace trace' named r is x e = nothing_given true g trace trace' r is x e
-reads_given front device bytes channels mask want asked dev reply g trace trace' named r is x e = absurd r
-
 at_seat : (front : Front) (device : List ℕ) (s : SeatState) (asked dev : ℕ) (reply : Reply) (g : List (List ℕ)) (trace trace' : Option Trace)
     → is_named front device dev ≡ true
     → ReadMoves front s asked reply trace trace' → ((x : Trace) → trace ≡ Some x → x.given ≡ g) → (x : Trace) → trace' ≡ Some x
     → x.given ≡ given_by front dev (Said (Ok (ReadBuf device asked))) reply g
-at_seat front device s asked dev reply g trace trace' named r is x e = by (nat_lt asked (size_at front s.dev s.mask)) refl
-  where
-    by : (b : Bool) → nat_lt asked (size_at front s.dev s.mask) ≡ b → x.given ≡ given_by front dev (Said (Ok (ReadBuf device asked))) reply g
-    by true less = let m : (reply ≡ zero_reply) × (trace' ≡ trace) = rw less at r in rw m.0 (is x (sym m.1 ∙ e))
-    by false less = reads_given front device asked _ _ _ asked dev reply g trace trace' named (rw less at r) is x e
+at_seat front device s asked dev reply g trace trace' named r is x e = search rules
 
 -- at another device
 not_named : (front : Front) (device : List ℕ) (asked dev : ℕ) (reply : Reply) (g : List (List ℕ)) → is_named front device dev ≡ false
     → given_by front dev (Said (Ok (ReadBuf device asked))) reply g ≡ g
-not_named front device asked dev (Block c m scans b) g n = rw n refl
-not_named front device asked dev reply g n = refl
+not_named front device asked dev reply g n = search rules
 
 read_at : (front : Front) (device : List ℕ) (asked k i : ℕ) (reply : Reply) (seats : List SeatState) (traces traces' : List (Option Trace))
     → find_device front device ≡ Some k → place_of k seats ≡ Some i
@@ -303,38 +230,17 @@ read_at front device asked k i reply seats traces traces' named at r a = rw r.af
         is dev x (sym (trace_other k dev i seats traces r.trace' (place_first k seats i at) here) ∙ e)
         ∙ sym (not_named front device asked dev reply (given dev) (named_is front device k dev named ∙ here))
 
-refusal_gives : (front : Front) (e : Errno) (device : List ℕ) (asked dev : ℕ) (g : List (List ℕ))
-    → given_by front dev (Said (Ok (ReadBuf device asked))) (Refusal e) g ≡ g
-refusal_gives front e device asked dev g = refl
-
 read_by : (front : Front) (device : List ℕ) (asked k : ℕ) (place : Option ℕ) (reply : Reply) (seats : List SeatState) (traces traces' : List (Option Trace))
     → find_device front device ≡ Some k → place_of k seats ≡ place
     → ReadsBy front asked seats traces place reply traces' → AreSeated seats traces
     → Keeps front (Said (Ok (ReadBuf device asked))) reply seats traces seats traces'
-read_by front device asked k None reply seats traces traces' named at r a =
-    rw r.0 (same front (Said (Ok (ReadBuf device asked))) (Refusal EBADF) seats seats traces traces' refl r.1 (refusal_gives front EBADF device asked) a)
-read_by front device asked k (Some i) reply seats traces traces' named at r a = read_at front device asked k i reply seats traces traces' named at r a
+read_by front device asked k place reply seats traces traces' named at r a = grind (arith, common_steps, read_at)
 
 read_from : (front : Front) (device : List ℕ) (asked : ℕ) (dev : Option ℕ) (reply : Reply) (seats : List SeatState) (traces traces' : List (Option Trace))
     → find_device front device ≡ dev
     → ReadsFrom front asked seats traces dev reply traces' → AreSeated seats traces
     → Keeps front (Said (Ok (ReadBuf device asked))) reply seats traces seats traces'
-read_from front device asked None reply seats traces traces' named r a =
-    rw r.0 (same front (Said (Ok (ReadBuf device asked))) (Refusal ENODEV) seats seats traces traces' refl r.1 (refusal_gives front ENODEV device asked) a)
-read_from front device asked (Some k) reply seats traces traces' named r a = by (is_output (kind_at front k)) r
-  where
-    unread : (reply : Reply) → (reply ≡ Refusal ENODEV) ⊎ (reply ≡ Refusal ENOSYS) → traces' ≡ traces
-        → Keeps front (Said (Ok (ReadBuf device asked))) reply seats traces seats traces'
-    unread reply (inl is) t =
-        rw is (same front (Said (Ok (ReadBuf device asked))) (Refusal ENODEV) seats seats traces traces' refl t (refusal_gives front ENODEV device asked) a)
-    unread reply (inr is) t =
-        rw is (same front (Said (Ok (ReadBuf device asked))) (Refusal ENOSYS) seats seats traces traces' refl t (refusal_gives front ENOSYS device asked) a)
-
-    by : (b : Bool) → MatchBool b (((reply ≡ Refusal ENODEV) ⊎ (reply ≡ Refusal ENOSYS)) × (traces' ≡ traces))
-        (ReadsBy front asked seats traces (place_of k seats) reply traces')
-        → Keeps front (Said (Ok (ReadBuf device asked))) reply seats traces seats traces'
-    by true x = unread reply x.0 x.1
-    by false x = read_by front device asked k (place_of k seats) reply seats traces traces' named refl x a
+read_from front device asked dev reply seats traces traces' named r a = grind (arith, common_steps, read_by)
 
 -- ---- any item
 
@@ -355,18 +261,13 @@ moved front a b (Said (Ok (Remask device text))) (Number n) s m =
     (remasked front device text n under.i under.s (seat_state_remasked under.mask under.waiting under.s) under.t a.client.seats a.traces
     (m.named ∙ ap (λ (k : ℕ). Some k) (sym under.its))
     (ap (λ (k : ℕ). place_of k a.client.seats) under.its ∙ under.at) under.here refl under.fresh s)
-moved front a b (Said (Ok (ReadBuf device asked))) NoMemory s m =
-    same front (Said (Ok (ReadBuf device asked))) NoMemory _ _ _ _ (seats_in a.client b.client m.0) m.1 (λ dev g. refl) s
+moved front a b (Said (Ok (ReadBuf device asked))) NoMemory s m = search rules
 moved front a b (Said (Ok (ReadBuf device asked))) reply s m =
     rw (seats_in a.client b.client m.0) (read_from front device asked (find_device front device) reply a.client.seats a.traces b.traces refl m.1 s)
-moved front a b (Said (Ok (SetBuffers device n))) (Number z) s m =
-    same front (Said (Ok (SetBuffers device n))) (Number z) _ _ _ _ (ap (λ (d : ClientRecord). d.seats) m.moves.0) m.moves.1 (λ dev g. refl) s
-moved front a b (Said (Ok (EvOpen device))) (Number z) s m =
-    same front (Said (Ok (EvOpen device))) (Number z) _ _ _ _ (ap (λ (d : ClientRecord). d.seats) m.moves.0) m.moves.1 (λ dev g. refl) s
-moved front a b (Said (Ok (EvClose device))) (Number z) s m =
-    same front (Said (Ok (EvClose device))) (Number z) _ _ _ _ (ap (λ (d : ClientRecord). d.seats) m.moves.0) m.moves.1 (λ dev g. refl) s
-moved front a b (End error) reply s m =
-    rw (ap (λ (d : ClientRecord). d.seats) m.1, m.2) (record { apart = tt; told = refl }, λ given is dev x e. let n : None ≡ Some x = e in cc)
+moved front a b (Said (Ok (SetBuffers device n))) (Number z) s m = search rules
+moved front a b (Said (Ok (EvOpen device))) (Number z) s m = search rules
+moved front a b (Said (Ok (EvClose device))) (Number z) s m = search rules
+moved front a b (End error) reply s m = search rules
 moved front a b item reply s m = same front item reply _ _ _ _ (seats_in a.client b.client m.0) m.1 (λ dev g. refl) s
 
 -- ---- a whole feed
@@ -395,13 +296,7 @@ gives manner front a b items replies r s =
 
 -- a READBUF that finds nothing gives nothing
 none_gives : (front : Front) (dev : ℕ) (item : Item) (e : Errno) (g : List (List ℕ)) → given_by front dev item (Refusal e) g ≡ g
-none_gives front dev item e g = by item
-  where
-    by : (item : Item) → given_by front dev item (Refusal e) g ≡ g
-    by (Said (Ok (Open device samples text cyclic))) = refl
-    by (Said (Ok (ReadBuf device asked))) = refl
-    by (Said (Ok (Remask device text))) = refl
-    by item = refl
+none_gives front dev item e g = search rules
 
 pub waiting_gives : (front : Front) (items : List Item) (replies : List Reply) (o a b : State) (item : Item) (e : Errno)
     → Moves front a item (Refusal e) b → AreSeated a.client.seats a.traces → GivenIs front items replies o a → GivenIs front items replies o b

@@ -1,6 +1,7 @@
 -- What a piece of the stream means for the items, and what is made of it.
-use Rattle.std.proofs.Common.{◌≡◌, ◌≢◌, inl, ℕ, ◌<◌, ◌≤◌, ◌==◌, nat_lt, Bool, true, false, List, [], ◌∷◌, ◌++◌, ◌+◌, ◌-◌, take, drop, length, refl, sym, subst, ap, ◌∙◌, append-nil, Option, Some, None, IfSome, Result, Ok, Err, IfOk, arith}
-use Rattle.std.proofs.lemmas.List.{drop-drop, length-drop, take_rest}
+use Rattle.std.proofs.Common.{◌≡◌, ◌≢◌, ℕ, ◌<◌, ◌≤◌, nat_lt, Bool, true, false, List, [], ◌∷◌, ◌++◌, ◌+◌, ◌-◌, take, drop, length, refl, sym, ap, ◌∙◌, append-nil, Option, Some, None, IfSome, Result, Ok, Err, IfOk, arith, rules}
+use Rattle.std.proofs.lemmas.Grind.{common_steps}
+use Rattle.std.proofs.lemmas.List.{drop-drop, take_rest}
 use Rattle.std.proofs.Math.Seq.{drop-append_seam}
 use Rattle.iio_base.specs.declared.Mem.{Mem}
 use Rattle.iio_text.specs.declared.errors.Errno.{Errno}
@@ -18,13 +19,12 @@ use Rattle.iiod_grammar.specs.View.{command_view}
 use Rattle.iiod_grammar.specs.Command.{Command, Exit, ReadBuf, Write, WriteBuf, command_of}
 use Rattle.iiod_grammar.specs.Lines.{LinesRecord, after_piece}
 use Rattle.iiod_grammar.specs.Scans.{ScansBy, scan_on, scanner_at}
-use Rattle.iiod_grammar.specs.Stream.{Item, Said, Pending, OfWrite, OfWriteBuf, End, ItemsCutAnywhere, ScannerCutAnywhere, Scanned, AtEnd, InLine, after_line, after_said, ended_by, no_item, one_item, payload_after, payload_begun, with_payload}
+use Rattle.iiod_grammar.specs.Stream.{Item, Said, Pending, End, ItemsCutAnywhere, ScannerCutAnywhere, Scanned, AtEnd, InLine, after_line, after_said, ended_by, no_item, one_item, payload_begun, with_payload}
 use Rattle.iiod_reply.specs.Reply.{Reply, text_of}
 use Rattle.iiod_commands.specs.declared.client.OpenSeat.{OpenSeat}
 use Rattle.iiod_session.specs.declared.going.Going.{Going}
 use Rattle.iiod_session.specs.declared.going.Going.TheVariants.{On, Waits, Ended}
 use Rattle.iiod_commands.specs.declared.manner.Manner.{Manner}
-use Rattle.iiod_commands.specs.declared.manner.Manner.TheVariants.{Script, Server}
 use Rattle.iiod_commands.specs.declared.manner.Progress.{Progress}
 use Rattle.iiod_commands.specs.declared.manner.Progress.TheVariants.{Done, Waits as PerformedWaits}
 use Rattle.iiod_commands.specs.Acts.{Acts, act, end_reply, left_client, left_machine}
@@ -40,38 +40,24 @@ use Rattle.iiod_session.specs.Session.{IsKept, IsPlain, piece_by, stream_by, unr
 use Rattle.iiod_session.specs.Watch.{Hears, Tells, is_waiting, waits_in}
 use Rattle.iiod_session.proofs.WatchLaws.{scene}
 use Rattle.iiod_session.proofs.FeedLaws.{fed_more, fed_none, fed_one, fed_then, feeds_more, feeds_of, feeds_on, feeds_then, goes_on}
-use Rattle.iiod_session.proofs.StreamLaws.{scan_end, scan_more, scan_nil, scan_rest, scanner_goes_on}
+use Rattle.iiod_session.proofs.StreamLaws.{scan_end, scan_nil, scan_rest, scanner_goes_on}
 
 -- ---- the end
 
 end_allowed : (manner : Manner) (error : Option Errno) → IsAllowed manner (end_reply error)
-end_allowed Script None = tt
-end_allowed Script (Some e) = tt
-end_allowed Server None = tt
-end_allowed Server (Some e) = tt
+end_allowed manner error = search rules
 
 end_alone : (front : Front) (client : ClientRecord) (error : Option Errno) → AnswersAlone front client (End error) (end_reply error)
-end_alone front client None = refl
-end_alone front client (Some e) = inl refl
+end_alone front client error = search rules
 
 end_formed : (front : Front) (error : Option Errno) → AnswersAs front (End error) (end_reply error)
-end_formed front None = tt
-end_formed front (Some e) = tt
+end_formed front error = search rules
 
 end_acts : (front : Front) (a b : State) (error : Option Errno) → IfSome a.told (λ m. b.told ≡ Some (left_machine front m a.client))
     → b.client ≡ left_client a.client
     → IfSome a.told (λ m. Acts front m a.client (End error) (end_reply error) b.told b.client)
 unfolding act
-end_acts front a b error t d = by a.told t error
-  where
-    by : (told : Option Machine) → IfSome told (λ m. b.told ≡ Some (left_machine front m a.client)) → (error : Option Errno)
-        → IfSome told (λ m. Acts front m a.client (End error) (end_reply error) b.told b.client)
-    by None x error = tt
-    by (Some m) x None = (left_machine front m a.client, x, rw d refl)
-    by (Some m) x (Some e) = (left_machine front m a.client, x, rw d refl)
-
-none_seen : {S : Type 0} (seen : S → SeatRecord) (held : List (OpenSeat S)) → held ≡ [] → traces_of seen held ≡ []
-none_seen seen held e = ap (λ hs. traces_of seen hs) e
+end_acts front a b error t d = search rules
 
 module _ {W : Type 0} {makes : Front → Option Machine → ℕ → Item → W → W → Type 0} where
   ends : (manner : Manner) (front : Front) (a b : State) (w v : W) (error : Option Errno) (before after : List ℕ)
@@ -103,8 +89,7 @@ module _ {W : Type 0} {makes : Front → Option Machine → ℕ → Item → W �
       → makes front a.told a.client.who (End error) w v → after ≡ before ++ text_of (end_reply error)
       → IfSome a.told (λ m. b.told ≡ Some (left_machine front m a.client)) → b.client ≡ left_client a.client → b.traces ≡ traces_of seen held → held ≡ []
       → Hears makes manner front (feeding (scene a w false) (ended_by error) before) (feeding (scene b v false) (no_item AtEnd) after) Ended
-  end_feeds seen manner front a b w v held error before after tells text t d traces none =
-      ends manner front a b w v error before after tells text t d (traces ∙ none_seen seen held none)
+  end_feeds seen manner front a b w v held error before after tells text t d traces none = search (rules, ends)
 
 -- a line that ends the connection
 pub ended_line : {W : Type 0} (makes : Front → Option Machine → ℕ → Item → W → W → Type 0) (manner : Manner) (front : Front) (a b : State) (w v : W)
@@ -113,10 +98,7 @@ pub ended_line : {W : Type 0} (makes : Front → Option Machine → ℕ → Item
     → IfOk r (λ going. Hears makes manner front (feeding (scene a w false) (ended_by error) before) (feeding (scene b v false) (no_item AtEnd) after) going)
     → IfOk r (λ going. Hears makes manner front (feeding (scene a w false) all before)
     (feeding (scene b v (is_waiting going)) (stream_by going lines pending) after) going)
-ended_line makes manner front a b w v error all before after lines pending (Ok Ended) is e f = rw is f
-ended_line makes manner front a b w v error all before after lines pending (Ok On) is e f = cc
-ended_line makes manner front a b w v error all before after lines pending (Ok (Waits dev)) is e f = cc
-ended_line makes manner front a b w v error all before after lines pending (Err fault) is e f = tt
+ended_line makes manner front a b w v error all before after lines pending r is e f = search rules
 
 -- ---- lines
 
@@ -137,15 +119,10 @@ pub payload_feeds : {W : Type 0} {makes : Front → Option Machine → ℕ → I
     (line : List ℕ) (of : Pending) (count : ℕ) (before : List ℕ) (lines : LinesRecord) (kept : PendingRecord)
     → after_line line ≡ payload_begun of count → count ≤ MAX_PAYLOAD → lines ≡ record (after_piece line) { wanted = Some count } → pending_of kept ≡ of
     → Hears makes manner front (feeding (scene a w false) (after_line line) before) (feeding (scene a w false) (stream_by On lines kept) before) On
-payload_feeds manner front a w line of count before lines kept e within is same =
-    let here : after_line line ≡ stream_by On lines kept = payload_stream line of count kept e within same ∙ rw is refl in
-    goes_on manner front _ _ (scanner_goes_on lines (pending_of kept)) (rw here (fed_none _))
+payload_feeds manner front a w line of count before lines kept e within is same = search (rules, payload_stream, goes_on, fed_none)
 
 plain_line : (said : Result Command Refused) → IsPlain said → after_said said ≡ one_item (Said said)
-plain_line (Ok Exit) p = absurd p
-plain_line (Ok (Write device target count)) p = absurd p
-plain_line (Ok (WriteBuf device count)) p = absurd p
-plain_line said p = refl
+plain_line said p = search rules
 
 abbrev pub going_of : Progress → Going
 going_of Done = On
@@ -179,14 +156,10 @@ plain_feeds manner front a b w v told line kept said lines before after (Perform
 
 -- a line that is answered at once
 pub once_plain : (said : Result Command Refused) → IsAtOnce said → IsPlain said
-once_plain (Ok Exit) once = absurd once
-once_plain (Ok (Write device target count)) once = absurd once
-once_plain (Ok (WriteBuf device count)) once = absurd once
-once_plain said once = tt
+once_plain said once = search rules
 
 no_wait : (front : Front) (dev : ℕ) (said : Result Command Refused) → IsAtOnce said → IsReadOf front dev (Said said) → ⊥
-no_wait front dev (Ok (ReadBuf device asked)) once r = absurd once
-no_wait front dev said once r = r
+no_wait front dev said once r = search rules
 
 pub at_once_feeds : {W : Type 0} {makes : Front → Option Machine → ℕ → Item → W → W → Type 0} (manner : Manner) (front : Front) (a b : State) (w v : W)
     (kept : PendingRecord) (said : Result Command Refused) (lines : LinesRecord) (before after : List ℕ) (p : Progress)
@@ -201,8 +174,7 @@ at_once_feeds manner front a b w v kept said lines before after (PerformedWaits 
 -- ---- payloads
 
 no_read : (front : Front) (dev : ℕ) (of : Pending) (payload : List ℕ) → IsReadOf front dev (with_payload of payload) → ⊥
-no_read front dev (OfWrite device target) payload r = r
-no_read front dev (OfWriteBuf device) payload r = r
+no_read front dev of payload r = search rules
 
 pub written_feeds : {W : Type 0} {makes : Front → Option Machine → ℕ → Item → W → W → Type 0} (manner : Manner) (front : Front) (a b : State) (w v : W)
     (lines : LinesRecord) (kept : PendingRecord) (of : Pending) (payload before after : List ℕ) (p : Progress)
@@ -226,8 +198,7 @@ pub said_feeds : {W : Type 0} {makes : Front → Option Machine → ℕ → Item
     → Hears makes manner front (feeding (scene a w told) (after_line lines.piece) before)
     (feeding (scene b v (is_waiting (going_of p))) (stream_by (going_of p) lines kept) after)
     (going_of p)
-said_feeds manner front a b w v told kept said lines before after p is e plain tells x =
-    plain_feeds manner front a b w v told lines.piece kept said lines before after p e plain is tells x
+said_feeds manner front a b w v told kept said lines before after p is e plain tells x = search (rules, plain_feeds)
 
 -- a line of no bytes
 pub blank_line : (line : List ℕ) → line ≡ [] → command_of line ≡ Err Empty
@@ -241,10 +212,7 @@ pub more_feeds : {S : Type 0} {Answered : S → Item → Reply → S → Type 0}
     → scan_on (scanner_at old pending) rest ≡ scanner_at new pending → rest ≡ whole → tail ≡ []
     → FedBy Answered (feeding a all before) (feeding b (scan_on (scanner_at old pending) whole) after)
     → CarriesBy Answered Unanswered manner front (feeding a all before) (feeding b (scan_on (scanner_at new pending) tail) after) On
-more_feeds manner front a b all before after old new pending rest whole tail scans same none f =
-    let left : scan_on (scanner_at new pending) tail ≡ scanner_at new pending =
-    ap (λ bs. scan_on (scanner_at new pending) bs) none ∙ scan_nil (scanner_at new pending) in
-    rw left (goes_on manner front _ _ (scanner_goes_on new pending) (rw scans at (rw (← same) at f)))
+more_feeds manner front a b all before after old new pending rest whole tail scans same none f = search rules
 
 ended_stays : (e : Option Errno) (bytes : List ℕ) → scan_on (ended_by e) bytes ≡ ended_by e
 ended_stays e bytes = ap (λ (s : Scanned). let x : Scanned = record { items = End e ∷ s.items; next = s.next } in x) (scan_end bytes)
@@ -258,8 +226,7 @@ drop_all bytes = ap (λ bs. drop (length bytes) bs) (sym (append-nil bytes)) ∙
 
 -- all bytes were taken
 pub all_taken : (at taken : ℕ) (bytes : List ℕ) → at ≤ length bytes → taken ≡ length (take (length bytes - at) (drop at bytes)) → at + taken ≡ length bytes
-all_taken at taken bytes within all =
-    let n : taken ≡ length bytes - at = all ∙ ap length (take_rest bytes at) ∙ length-drop at bytes in omega arith
+all_taken at taken bytes within all = grind (arith, common_steps)
 
 pub none_after : (at taken : ℕ) (bytes : List ℕ) → at ≤ length bytes → taken ≡ length (take (length bytes - at) (drop at bytes)) → drop (at + taken) bytes ≡ []
 none_after at taken bytes within all = ap (λ n. drop n bytes) (all_taken at taken bytes within all) ∙ drop_all bytes
@@ -270,10 +237,8 @@ pub piece_scans : ItemsCutAnywhere → ScannerCutAnywhere → (old new : LinesRe
     → ScansBy (pending_of kept) old rest taken ready new
     → scan_on (stream_by On old kept) rest ≡ scan_on (piece_by ready new kept) (drop taken rest)
 piece_scans items scanner old new kept rest taken More n going scans = absurd (n refl)
-piece_scans items scanner old new kept rest taken Line n going scans =
-    scan_rest items scanner (stream_by On old kept) taken rest ∙ ap (λ x. scan_on x (drop taken rest)) scans
-piece_scans items scanner old new kept rest taken Payload n going scans =
-    scan_rest items scanner (stream_by On old kept) taken rest ∙ ap (λ x. scan_on x (drop taken rest)) scans
+piece_scans items scanner old new kept rest taken Line n going scans = search (rules, scan_rest)
+piece_scans items scanner old new kept rest taken Payload n going scans = search (rules, scan_rest)
 piece_scans items scanner old new kept rest taken TooLong n going scans = scans going ∙ sym (ended_stays (Some E2BIG) (drop taken rest))
 
 pub on_fed : {S : Type 0} {Answered : S → Item → Reply → S → Type 0} {Unanswered : S → Item → S → Type 0} (manner : Manner) (front : Front) (a b c : S)
@@ -281,8 +246,7 @@ pub on_fed : {S : Type 0} {Answered : S → Item → Reply → S → Type 0} {Un
     → left ≡ scan_on piece tail → tail ≡ tail' → FedBy Answered (feeding a all before) (feeding b left mid)
     → CarriesBy Answered Unanswered manner front (feeding b piece mid) (feeding c next after) On
     → FedBy Answered (feeding a all before) (feeding c (scan_on next tail') after)
-on_fed manner front a b c all left piece next before mid after tail tail' e same f g =
-    rw (sym same) (fed_then _ (feeding b left mid) _ f (rw e (fed_more (feeding b piece mid) (feeding c next after) tail (feeds_on manner front _ _ g))))
+on_fed manner front a b c all left piece next before mid after tail tail' e same f g = grind (arith, common_steps, fed_then)
 
 pub stop_feeds : {S : Type 0} {Answered : S → Item → Reply → S → Type 0} {Unanswered : S → Item → S → Type 0} (manner : Manner) (front : Front) (a b c : S)
     (all left piece next : Scanned) (before mid after tail tail' : List ℕ) (going : Going) → going ≢ On
@@ -298,9 +262,7 @@ stop_feeds manner front a b c all left piece next before mid after tail tail' go
 pub ended_feeds : {S : Type 0} {Answered : S → Item → Reply → S → Type 0} {Unanswered : S → Item → S → Type 0} (manner : Manner) (front : Front) (a : S)
     (before bytes more : List ℕ)
     → CarriesBy Answered Unanswered manner front (feeding a (scan_on (no_item AtEnd) bytes) before) (feeding a (scan_on (no_item AtEnd) more) before) Ended
-ended_feeds manner front a before bytes more =
-    rw (scan_end bytes, scan_end more)
-    (feeds_of manner front _ a _ Ended (fed_none _) (refl, refl))
+ended_feeds manner front a before bytes more = search (rules, scan_end, fed_none)
 
 pub resumed : {S : Type 0} {Answered : S → Item → Reply → S → Type 0} {Unanswered : S → Item → S → Type 0} (manner : Manner) (front : Front) (a b : S)
     (c : ℕ × Going → S) (all left : Scanned) (before mid after bytes : List ℕ) (next : ℕ × Going → Scanned) (r : Result (ℕ × Going) Mem)
@@ -322,18 +284,6 @@ again_feeds manner front a b all left before after bytes going none f = rw none 
 pub none_begun : (lines : LinesRecord) (kept : PendingRecord) → lines ≡ after_piece lines.piece → (stream_by On lines kept).items ≡ []
 none_begun lines kept is = ap (λ (z : LinesRecord). (stream_by On z kept).items) is
 
--- the bytes that are kept
-pub unread_feeds : {S : Type 0} {Answered : S → Item → Reply → S → Type 0} {Unanswered : S → Item → S → Type 0} (manner : Manner) (front : Front) (a b : S)
-    (all : Scanned) (before after bytes : List ℕ) (taken : ℕ) (going : Going) (lines : LinesRecord) (kept : PendingRecord)
-    → (going ≡ On → (taken ≡ length bytes) × ((stream_by On lines kept).items ≡ []))
-    → CarriesBy Answered Unanswered manner front (feeding a all before) (feeding b (scan_on (stream_by going lines kept) (drop taken bytes)) after) going
-    → CarriesBy Answered Unanswered manner front (feeding a all before) (feeding b (scan_on (stream_by going lines kept) (unread_of going taken bytes)) after)
-    going
-unread_feeds manner front a b all before after bytes taken On lines kept on f =
-    let none : drop taken bytes ≡ [] = ap (λ n. drop n bytes) (on refl).0 ∙ drop_all bytes in rw none at f
-unread_feeds manner front a b all before after bytes taken (Waits dev) lines kept on f = f
-unread_feeds manner front a b all before after bytes taken Ended lines kept on f = rw (scan_end (drop taken bytes), ← (scan_end [])) at f
-
 -- no bytes were kept before
 pub first_feeds : {S : Type 0} {Answered : S → Item → Reply → S → Type 0} {Unanswered : S → Item → S → Type 0} (manner : Manner) (front : Front) (a b : S)
     (all : Scanned) (before after bytes held left : List ℕ) (taken : ℕ) (going : Going) (lines : LinesRecord) (kept : PendingRecord)
@@ -343,14 +293,7 @@ pub first_feeds : {S : Type 0} {Answered : S → Item → Reply → S → Type 0
     (feeding b (scan_on (stream_by going lines kept) (drop taken bytes)) after) going
     → CarriesBy Answered Unanswered manner front (feeding a (scan_on (scan_on all held) bytes) before)
     (feeding b (scan_on (stream_by going lines kept) left) after) going
-first_feeds {S} {Answered} {Unanswered} manner front a b all before after bytes held left taken going lines kept none now on f =
-    let same : scan_on (scan_on all held) bytes ≡ scan_on all bytes =
-    ap (λ bs. scan_on (scan_on all bs) bytes) none ∙ ap (λ x. scan_on x bytes) (scan_nil all) in
-    let unread : left ≡ unread_of going taken bytes = now ∙ ap (λ (bs : List ℕ). bs ++ unread_of going taken bytes) none in
-    subst (λ x. CarriesBy Answered Unanswered manner front (feeding a x before) (feeding b (scan_on (stream_by going lines kept) left) after) going) (sym same)
-    (subst (λ bs. CarriesBy Answered Unanswered manner front (feeding a (scan_on all bytes) before) (feeding b (scan_on (stream_by going lines kept) bs) after)
-    going) (sym unread)
-    (unread_feeds manner front a b (scan_on all bytes) before after bytes taken going lines kept on f))
+first_feeds manner front a b all before after bytes held left taken going lines kept none now on f = grind (arith, common_steps)
 
 -- bytes were kept before, and are looked at first
 pub kept_feeds : {S : Type 0} {Answered : S → Item → Reply → S → Type 0} {Unanswered : S → Item → S → Type 0} (manner : Manner) (front : Front) (a b : S)
@@ -361,12 +304,7 @@ pub kept_feeds : {S : Type 0} {Answered : S → Item → Reply → S → Type 0}
     (feeding b (scan_on (stream_by going lines kept) (drop taken whole)) after) going
     → CarriesBy Answered Unanswered manner front (feeding a (scan_on (scan_on all held) bytes) before)
     (feeding b (scan_on (stream_by going lines kept) left) after) going
-kept_feeds {S} {Answered} {Unanswered} manner front a b all before after bytes held whole left taken going lines kept items scanner joined unread on f =
-    let same : scan_on (scan_on all held) bytes ≡ scan_on all whole = scan_more items scanner all held bytes ∙ ap (λ bs. scan_on all bs) (sym joined) in
-    subst (λ x. CarriesBy Answered Unanswered manner front (feeding a x before) (feeding b (scan_on (stream_by going lines kept) left) after) going) (sym same)
-    (subst (λ bs. CarriesBy Answered Unanswered manner front (feeding a (scan_on all whole) before) (feeding b (scan_on (stream_by going lines kept) bs) after)
-    going) (sym unread)
-    (unread_feeds manner front a b (scan_on all whole) before after whole taken going lines kept on f))
+kept_feeds manner front a b all before after bytes held whole left taken going lines kept items scanner joined unread on f = grind (arith, common_steps)
 
 -- ---- a command of the code
 
@@ -374,11 +312,7 @@ pub at_once_command : (command : CodeCommand) → (command ≡ code.Exit → ⊥
     → ((dev : Bor (List ℕ)) (target : Option (CodePlace × Option (Bor (List ℕ)))) (count : ℕ) → command ≡ code.Write dev target count → ⊥)
     → ((dev : Bor (List ℕ)) (bytes : ℕ) → command ≡ code.WriteBuf dev bytes → ⊥) → ((dev : Bor (List ℕ)) (bytes : ℕ) → command ≡ code.ReadBuf dev bytes → ⊥)
     → IsAtOnce (Ok (command_view command))
-at_once_command code.Exit e w s r = absurd (e refl)
-at_once_command (code.Write dev target count) e w s r = absurd (w dev target count refl)
-at_once_command (code.WriteBuf dev bytes) e w s r = absurd (s dev bytes refl)
-at_once_command (code.ReadBuf dev bytes) e w s r = absurd (r dev bytes refl)
-at_once_command command e w s r = tt
+at_once_command command e w s r = search rules
 
 -- ---- whether a connection has ended
 
@@ -386,44 +320,12 @@ pub is_ended : (lines : LinesRecord) (kept : PendingRecord) (left : List ℕ) (g
     → scan_on (stream_by going lines kept) left ≡ no_item AtEnd
 is_ended lines kept left going e = ap (λ g. scan_on (stream_by g lines kept) left) e ∙ scan_end left
 
-not_nothing : (item : Item) (more : List Item) → item ∷ more ≡ [] → ⊥
-not_nothing item more e = cc
-
 pub not_ended : (lines : LinesRecord) (kept : PendingRecord) (left : List ℕ) (going : Going) → IsKept going lines kept left → (going ≡ Ended → ⊥)
     → scan_on (stream_by going lines kept) left ≡ no_item AtEnd → ⊥
-not_ended lines kept left Ended k n e = n refl
-not_ended lines kept left On k n e =
-    let stays : scan_on (stream_by On lines kept) left ≡ stream_by On lines kept =
-    ap (λ bs. scan_on (stream_by On lines kept) bs) k.1 ∙ scan_nil (stream_by On lines kept) in
-    scanner_goes_on lines (pending_of kept) (ap (λ (s : Scanned). s.next) (sym stays ∙ e))
-not_ended lines kept left (Waits dev) k n e =
-    let one : after_line lines.piece ≡ one_item (Said (command_of lines.piece)) = plain_line (command_of lines.piece) (rw k.1 tt) in
-    not_nothing _ _ (ap (λ (s : Scanned). s.items) (ap (λ s. scan_on s left) (sym one) ∙ e))
+not_ended lines kept left going k n e = search rules
 
 -- ---- whether the first item that is left waits
 
-no_line : (of : Pending) (payload : List ℕ) → waits_in (with_payload of payload ∷ []) ≡ false
-no_line (OfWrite device target) payload = refl
-no_line (OfWriteBuf device) payload = refl
-
-payload_waits : (of : Pending) (count : ℕ) (begun : List ℕ) (b : Bool) → (length begun == count) ≡ b → waits_in (payload_after of count begun).items ≡ false
-payload_waits of count begun true e = rw e (no_line of begun)
-payload_waits of count begun false e = rw e refl
-
-begun_waits : (x : LinesRecord) (of : Pending) → waits_in (scanner_at x of).items ≡ false
-begun_waits x of = by x.wanted
-  where
-    by : (wanted : Option ℕ) → waits_in (scanner_at (record x { wanted = wanted }) of).items ≡ false
-    by None = refl
-    by (Some count) = payload_waits of count x.begun (length x.begun == count) refl
-
 pub waits_by : (lines : LinesRecord) (kept : PendingRecord) (left : List ℕ) (going : Going) → IsKept going lines kept left
     → waits_in (scan_on (stream_by going lines kept) left).items ≡ is_waiting going
-waits_by lines kept left On k =
-    let stays : scan_on (stream_by On lines kept) left ≡ stream_by On lines kept =
-    ap (λ bs. scan_on (stream_by On lines kept) bs) k.1 ∙ scan_nil (stream_by On lines kept) in
-    ap (λ (s : Scanned). waits_in s.items) stays ∙ begun_waits lines (pending_of kept)
-waits_by lines kept left (Waits dev) k =
-    let one : after_line lines.piece ≡ one_item (Said (command_of lines.piece)) = plain_line (command_of lines.piece) (rw k.1 tt) in
-    ap (λ (s : Scanned). waits_in (scan_on s left).items) one
-waits_by lines kept left Ended k = ap (λ (s : Scanned). waits_in s.items) (scan_end left)
+waits_by lines kept left going k = search (rules, scan_end)

@@ -1,18 +1,17 @@
 -- In a script, over devices that tell their state, what a feed answers is determined.
-use Rattle.std.proofs.Common.{◌≡◌, ℕ, List, [], ◌∷◌, ◌++◌, refl, sym, ap, ◌∙◌, append-nil, Option, Some, None, Result, Ok, Err, IfOk}
+use Rattle.std.proofs.Common.{◌≡◌, ℕ, List, [], ◌∷◌, ◌++◌, refl, ap, ◌∙◌, append-nil, Option, Some, None, Result, IfOk, rules}
 use Rattle.std.specs.List.{flat_map}
 use Rattle.iio_base.specs.declared.Mem.{Mem}
 use Rattle.iiod_grammar.specs.Stream.{Item, Scanned}
-use Rattle.iiod_reply.specs.Reply.{Reply, Nothing, Number, Refusal, Line, Value, Raw, Block, NoMemory, text_of}
+use Rattle.iiod_reply.specs.Reply.{Reply, text_of}
 use Rattle.iiod_session.specs.declared.going.Going.{Going}
 use Rattle.iiod_session.specs.declared.going.Going.TheVariants.{On, Waits, Ended}
 use Rattle.iiod_commands.specs.declared.manner.Manner.{Manner}
 use Rattle.iiod_commands.specs.declared.manner.Manner.TheVariants.{Script, Server}
-use Rattle.iiod_commands.specs.Acts.{Acted, Acts, act}
+use Rattle.iiod_commands.specs.Acts.{act}
 use Rattle.iio_core.specs.Front.{Front}
 use Rattle.iiod_commands.specs.Client.{State}
 use Rattle.iio_core.specs.Machine.{Machine}
-use Rattle.iiod_commands.specs.Performs.{IsAllowed}
 use Rattle.iiod_session.specs.Run.{Carries, FeedTells, Feeding, IsAnswered, Run, Tells}
 
 -- what one item made
@@ -23,25 +22,7 @@ record Acting (front : Front) (a mid : State) (m : Machine) (item : Item) (reply
 
 step_tells : (front : Front) (a mid : State) (m : Machine) (item : Item) (reply : Reply) → IsAnswered Script front a item reply mid → a.told ≡ Some m
     → Acting front a mid m item reply
-step_tells front a mid m item reply one told = by reply one.allowed (rw told at one.served.exact)
-  where
-    so : (reply : Reply) → (n : Machine) × (mid.told ≡ Some n) × (act front m a.client item ≡ record { reply = reply; machine = n; client = mid.client })
-        → Acting front a mid m item reply
-    so reply x = record {
-      machine = x.1 ∙ ap (λ (o : Acted). Some o.machine) (sym x.2);
-      client = ap (λ (o : Acted). o.client) (sym x.2);
-      answer = ap (λ (o : Acted). o.reply) (sym x.2);
-    }
-
-    by : (reply : Reply) → IsAllowed Script reply → Acts front m a.client item reply mid.told mid.client → Acting front a mid m item reply
-    by NoMemory w x = absurd w
-    by Nothing w x = so Nothing x
-    by (Number n) w x = so (Number n) x
-    by (Refusal e) w x = so (Refusal e) x
-    by (Line t) w x = so (Line t) x
-    by (Value t) w x = so (Value t) x
-    by (Raw t) w x = so (Raw t) x
-    by (Block p q r s) w x = so (Block p q r s) x
+step_tells front a mid m item reply one told = search rules
 
 run_tells : (front : Front) (a b : State) (m : Machine) (items : List Item) (replies : List Reply)
     → Run Script front a items replies b → a.told ≡ Some m → Tells front m a.client items (flat_map text_of replies) b
@@ -75,6 +56,4 @@ feeds_tell front x y (Waits dev) none f = let never : Script ≡ Server = f.stan
 pub feed_tells : (manner : Manner) (front : Front) (x y : Feeding State) (r : Result Going Mem)
     → IfOk r (λ going. going ≡ On → y.stream.items ≡ []) → IfOk r (Carries manner front x y)
     → IfOk r (λ going. FeedTells manner front x.state x.stream.items x.out y.out y.state)
-feed_tells Script front x y (Ok going) none f = feeds_tell front x y going none f
-feed_tells Server front x y (Ok going) none f = tt
-feed_tells manner front x y (Err fault) none f = tt
+feed_tells manner front x y r none f = search (rules, feeds_tell)

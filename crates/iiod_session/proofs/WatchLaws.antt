@@ -1,14 +1,13 @@
 -- What a watch is told, and what is left without the watch.
-use Rattle.std.proofs.Common.{ℕ, Bool, List, [], ◌∷◌, ap, Option}
+use Rattle.std.proofs.Common.{ℕ, Bool, List, [], ◌∷◌, ap, Option, rules}
 use Rattle.iiod_grammar.specs.Stream.{Item}
 use Rattle.iiod_reply.specs.Reply.{Reply}
 use Rattle.iiod_session.specs.declared.going.Going.{Going}
-use Rattle.iiod_session.specs.declared.going.Going.TheVariants.{On, Waits, Ended}
 use Rattle.iiod_commands.specs.declared.manner.Manner.{Manner}
 use Rattle.iio_core.specs.Front.{Front}
 use Rattle.iiod_commands.specs.Client.{State}
 use Rattle.iio_core.specs.Machine.{Machine}
-use Rattle.iiod_session.specs.Run.{Carries, Feeding, Run, RunBy, Stands}
+use Rattle.iiod_session.specs.Run.{Carries, Feeding, Run, RunBy}
 use Rattle.iiod_session.specs.Watch.{Hears, IsHeard, Scene}
 
 abbrev pub scene : {W : Type 0} → State → W → Bool → Scene W
@@ -27,30 +26,6 @@ module _ {W : Type 0} (makes : Front → Option Machine → ℕ → Item → W �
   run_of manner front a b (item ∷ items) [] r = r
 
 module _ {W : Type 0} {makes : Front → Option Machine → ℕ → Item → W → W → Type 0} where
-  stands_of : (manner : Manner) (front : Front) (x y : Feeding (Scene W)) (going : Going)
-      → (c : Hears makes manner front x y going) → Stands manner front c.mid.state y.stream y.state.state going
-  stands_of manner front x y On c = (ap (λ (s : Scene W). s.state) c.stands.0, c.stands.1)
-  stands_of manner front x y (Waits dev) c = record {
-    server = c.stands.server;
-    item = c.stands.item;
-    more = c.stands.more;
-    first = c.stands.first;
-    read = c.stands.read;
-    served = c.stands.served.served;
-  }
-  stands_of manner front x y Ended c = (ap (λ (s : Scene W). s.state) c.stands.0, c.stands.1)
-
   pub carries_of : (manner : Manner) (front : Front) (x y : Feeding (Scene W)) (going : Going)
       → Hears makes manner front x y going → Carries manner front (unwatched x) (unwatched y) going
-  carries_of manner front x y going c = record {
-    mid = c.mid.state;
-    fed = record {
-      items = c.fed.items;
-      replies = c.fed.replies;
-      heard = c.fed.heard;
-      next = c.fed.next;
-      text = c.fed.text;
-      run = run_of makes manner front x.state c.mid c.fed.items c.fed.replies c.fed.run;
-    };
-    stands = stands_of manner front x y going c;
-  }
+  carries_of manner front x y going c = search (rules, run_of)
