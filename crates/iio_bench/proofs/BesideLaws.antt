@@ -66,8 +66,6 @@ module _ {S : Type 0} (seen : S → SeatRecord) where
       → h ≡ none_seated (clients_besides seen a (c ∷ []))
   live_none a c x h other some is = search rules
 
-  -- ---- the first connection, and the others
-
   -- ---- from a place on
 
   pub seated_on : (a : List ℕ) (cs : List (Connection S)) (i : ℕ) (c : Connection S) (k : ℕ) (b : Bool) → i < length cs → c ≡ get_or cs i c

@@ -11,7 +11,7 @@ use Rattle.iio_desc.specs.WellFormed.{IsWellFormedAverage}
 use Rattle.iio_kfifo.specs.Queue.{Queue}
 use Rattle.iio_device.specs.declared.membership.Membership.{Membership}
 use Rattle.iio_device.specs.declared.plug.Plug.{Plug}
-use Rattle.iio_device.specs.Device.{DeviceView, new_view}
+use Rattle.iio_device.specs.Device.{DeviceView, new_view, view_of}
 use Rattle.iio_text.specs.declared.values.Fixed.{Fixed}
 use Rattle.iio_attr.specs.declared.attributes.Attr.{Attr}
 use Rattle.iio_attr.specs.declared.attributes.Attr.TheVariants as attr
@@ -34,7 +34,7 @@ use Rattle.iio_kinds.specs.Places.{has_in_hand, trigger_of}
 use Rattle.iio_kinds.specs.declared.in_device.InDevice.{InDevice}
 use Rattle.iio_kinds.specs.declared.in_device.Inner.{Inner}
 use Rattle.iio_kinds.specs.Inner.{with_inner_name}
-use Rattle.iio_kinds.specs.Station.{in_station, member_of, station_by, station_of, view_by}
+use Rattle.iio_kinds.specs.Station.{in_station, member_of, station_by, station_of}
 use Rattle.iio_bench.proofs.ListLemmas.{length_map_is, map_append}
 use Rattle.iio_bench.proofs.AverageLemmas.{average_there}
 use Rattle.iio_bench.proofs.BenchLemmas.{none_attached, on_one}
@@ -110,7 +110,7 @@ module _ {X : Type 0} {V : X → Type 0} (driver : Plug X V → Driver) where
       (let st : Station = record (station_by driver d.device) { members = map (with_inner_name inners) (station_by driver d.device).members }
       in st)) none
       ∙ ap (λ (ms : List Member). (let st : Station = record (station_by driver d.device) { members = ms } in st))
-      (unnamed (view_by driver d.device).standing.members)
+      (unnamed (view_of driver d.device).standing.members)
 
 -- the devices so far, and another one
 pub pushed : {A D B : Type 0} (f : A → B) (h : D → B) (xs ys : List A) (ds : List D) (a : A) (d : D) → ys ≡ xs ++ a ∷ [] → map f xs ≡ map h ds → f a ≡ h d

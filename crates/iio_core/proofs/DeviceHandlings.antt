@@ -15,11 +15,13 @@ use Rattle.iio_kfifo.specs.declared.view.Writing.{Writing}
 use Rattle.iio_kfifo.specs.Ends.{Offers as WriterOffers, WriterEnd}
 use Rattle.iio_kfifo.specs.Offers.{accepted, accepted_after, lost_in}
 use Rattle.iio_kfifo.specs.Queue.{Offers as QueueOffers, Queue}
+use Rattle.iio_kfifo.specs.declared.tail.Tail.{Ghosts}
 use Rattle.iio_sensor.specs.Driver.{ask_fails, values_of}
 use Rattle.iio_trigger.specs.Trigger.{Handed}
 use Rattle.iio_device.specs.declared.handling.Handled.{Handled}
 use Rattle.iio_device.specs.declared.handling.Handled.TheVariants.{Captured, Fault, Idle}
 use Rattle.iio_device.specs.declared.membership.Membership.{Membership}
+use Rattle.iio_device.specs.Ends.{queue_end, writer_end}
 use Rattle.iio_device.specs.Active.{active_for}
 use Rattle.iio_device.specs.Device.{DeviceView, Handles, is_due}
 use Rattle.iio_device.specs.Members.{WasOffered, masks_of}
@@ -38,25 +40,25 @@ use Rattle.iio_core.proofs.DeviceLaws.{at_changed, masks_are}
 on_false : {A : Type 0} (b : Bool) (x y : A) → b ≡ false → cond b x y ≡ y
 on_false b x y e = cc
 
-module _ {Q : Type 0} (taken lost size capacity : Q → ℕ) (offer_gives : Q → List ℕ → Offered → Q → Type 0) (waits : Q → List (List ℕ))
+module _ {Q : Type 0} (ends : Ghosts Q) (waits : Q → List (List ℕ))
     (waited : Q → Q → List (List ℕ)) where
   abbrev met : List (Membership Q) → List (Membership Q) → List Member
-  met xs ys = members_met lost capacity waits waited xs ys
+  met xs ys = members_met ends waits waited xs ys
 
   abbrev pub after : DeviceView Q → Station
-  after d = station_of lost capacity waits d
+  after d = station_of ends waits d
 
   abbrev OffersAreMet : List (Membership Q) → List (Membership Q) → Type 0
   OffersAreMet xs ys =
-      AllZip (λ (a b : Membership Q). (scan : List ℕ) (answer : Offered) → offer_gives a.tail scan answer b.tail
-      → IsMet lost capacity waits waited scan answer a.tail b.tail) xs ys
+      AllZip (λ (a b : Membership Q). (scan : List ℕ) (answer : Offered) → ends.offer_gives a.tail scan answer b.tail
+      → IsMet ends waits waited scan answer a.tail b.tail) xs ys
 
   abbrev WereOffered : ShapeRecord → Capture → List (Membership Q) → List (Membership Q) → Type 0
   WereOffered shape c xs ys =
-      AllZip (λ (a b : Membership Q). WasOffered taken lost size capacity offer_gives (scan_of shape a.mask.bits c.values c.moment) a b) xs ys
+      AllZip (λ (a b : Membership Q). WasOffered ends (scan_of shape a.mask.bits c.values c.moment) a b) xs ys
 
   all_offered : (shape : ShapeRecord) (c : Capture) (xs ys : List (Membership Q)) → WereOffered shape c xs ys → OffersAreMet xs ys
-      → map (offered_to shape c) (met xs ys) ≡ map (λ (m : Membership Q). member_with lost capacity (waits m.tail) m) ys
+      → map (offered_to shape c) (met xs ys) ≡ map (λ (m : Membership Q). member_with ends (waits m.tail) m) ys
   all_offered shape c [] [] z h = refl
   all_offered shape c [] (y ∷ ys) z h = absurd z
   all_offered shape c (x ∷ xs) [] z h = absurd z
@@ -88,11 +90,11 @@ module _ {Q : Type 0} (taken lost size capacity : Q → ℕ) (offer_gives : Q �
       → captured t (active_for d.standing.shape (plain_masks members)) d.site ≡ captured t d.standing.active d.site
   asked_is t d members ruled masks = cc
 
-  pub handled_is : (e : Handed) (r : Handled) (d d' : DeviceView Q) → Handles taken lost size capacity offer_gives e r d d' → e.dev ≡ d.number
+  pub handled_is : (e : Handed) (r : Handled) (d d' : DeviceView Q) → Handles ends e r d d' → e.dev ≡ d.number
       → (d.standing.captures == 2 ^ 64 - 1) ≡ false
-      → d.standing.active ≡ active_for d.standing.shape (masks_of d.standing.members) → AreMet lost capacity waits waited offer_gives r d d'
-      → (r ≡ handled_answer e (station_met lost capacity waits waited r d d'))
-      × (station_after_entry Input d.standing.shape (Some e) (station_met lost capacity waits waited r d d') ≡ after d')
+      → d.standing.active ≡ active_for d.standing.shape (masks_of d.standing.members) → AreMet ends waits waited r d d'
+      → (r ≡ handled_answer e (station_met ends waits waited r d d'))
+      × (station_after_entry Input d.standing.shape (Some e) (station_met ends waits waited r d d') ≡ after d')
   handled_is e Idle d d' h own fewer ruled met_is = search rules
   handled_is e Fault d d' h own fewer ruled met_is = search (rules, masks_are)
   handled_is e (Captured n) d d' h own fewer ruled met_is =
@@ -104,7 +106,7 @@ module _ {Q : Type 0} (taken lost size capacity : Q → ℕ) (offer_gives : Q �
       let many : n ≡ length ms = h.2.0 ∙ sym (met_length d.standing.shape c d.standing.members d'.standing.members zip) in
       rw due (
         ap (λ (k : ℕ). Captured k) many ∙ sym (on_false (ask_fails d.site.driver) Fault (Captured (length ms)) h.1),
-        on_false (ask_fails d.site.driver) (asked_once d.standing.shape e.t (station_with lost capacity ms d)) _ h.1
+        on_false (ask_fails d.site.driver) (asked_once d.standing.shape e.t (station_with ends ms d)) _ h.1
             ∙ ap (λ (site : Site ℕ).
             (let st : Station =
             record {
@@ -145,50 +147,50 @@ module _ {Q : Type 0} (taken lost size capacity : Q → ℕ) (offer_gives : Q �
       )
 
   pub handlings_agree : (m : Machine) (dev : ℕ) (e : Handed) (r : Handled) (d d' : DeviceView Q)
-      → Handles taken lost size capacity offer_gives e r d d' → e.dev ≡ d.number → (d.standing.captures == 2 ^ 64 - 1) ≡ false
-      → d.standing.active ≡ active_for d.standing.shape (masks_of d.standing.members) → AreMet lost capacity waits waited offer_gives r d d'
-      → slice_get m.stations dev ≡ Some (station_met lost capacity waits waited r d d')
-      → (r ≡ handled_answer e (station_met lost capacity waits waited r d d'))
-      × IsAt lost capacity waits (with_station (station_after_entry Input d.standing.shape (Some e)) dev m) dev d'
+      → Handles ends e r d d' → e.dev ≡ d.number → (d.standing.captures == 2 ^ 64 - 1) ≡ false
+      → d.standing.active ≡ active_for d.standing.shape (masks_of d.standing.members) → AreMet ends waits waited r d d'
+      → slice_get m.stations dev ≡ Some (station_met ends waits waited r d d')
+      → (r ≡ handled_answer e (station_met ends waits waited r d d'))
+      × IsAt ends waits (with_station (station_after_entry Input d.standing.shape (Some e)) dev m) dev d'
   handlings_agree m dev e r d d' h own fewer ruled met_is here =
       let is = handled_is e r d d' h own fewer ruled met_is in (
         is.0,
-        at_changed m dev (station_met lost capacity waits waited r d d') (station_after_entry Input d.standing.shape (Some e)) here
+        at_changed m dev (station_met ends waits waited r d d') (station_after_entry Input d.standing.shape (Some e)) here
             ∙ ap (λ (st : Station). Some st) is.1,
       )
 
 -- ---- queues of one owner
 
 pub queues_are_met : (old new : Queue) (scan : List ℕ) (answer : Offered) → QueueOffers old scan answer new
-    → IsMet (λ (q : Queue). q.lost) (λ q. q.capacity) queue_waits queue_waited scan answer old new
+    → IsMet queue_end queue_waits queue_waited scan answer old new
 queues_are_met old new scan answer o = search rules
 
 module _ (scan_for : Membership Queue → List ℕ) where
   abbrev Were : List (Membership Queue) → List (Membership Queue) → Type 0
   Were xs ys =
-      AllZip (λ (a b : Membership Queue). WasOffered (λ (q : Queue). q.taken) (λ q. q.lost) (λ q. q.size) (λ q. q.capacity) QueueOffers (scan_for a) a b) xs ys
+      AllZip (λ (a b : Membership Queue). WasOffered queue_end (scan_for a) a b) xs ys
 
   queues_stood : (xs ys : List (Membership Queue)) → Were xs ys
-      → (members_met (λ (q : Queue). q.lost) (λ q. q.capacity) queue_waits queue_waited xs ys
-      ≡ map (λ (m : Membership Queue). member_with (λ (q : Queue). q.lost) (λ q. q.capacity) (queue_waits m.tail) m) xs)
+      → (members_met queue_end queue_waits queue_waited xs ys
+      ≡ map (λ (m : Membership Queue). member_with queue_end (queue_waits m.tail) m) xs)
       × AllZip (λ (a b : Membership Queue). (scan : List ℕ) (answer : Offered) → QueueOffers a.tail scan answer b.tail
-      → IsMet (λ (q : Queue). q.lost) (λ q. q.capacity) queue_waits queue_waited scan answer a.tail b.tail) xs ys
+      → IsMet queue_end queue_waits queue_waited scan answer a.tail b.tail) xs ys
   queues_stood [] [] z = (refl, tt)
   queues_stood [] (y ∷ ys) z = absurd z
   queues_stood (x ∷ xs) [] z = absurd z
   queues_stood (x ∷ xs) (y ∷ ys) z = search (rules, queues_stood xs ys z.1)
 
 pub queues_stand : (e : Handed) (r : Handled) (d d' : DeviceView Queue)
-    → Handles (λ (q : Queue). q.taken) (λ q. q.lost) (λ q. q.size) (λ q. q.capacity) QueueOffers e r d d'
-    → (station_met (λ (q : Queue). q.lost) (λ q. q.capacity) queue_waits queue_waited r d d'
-    ≡ station_of (λ (q : Queue). q.lost) (λ q. q.capacity) queue_waits d)
-    × AreMet (λ (q : Queue). q.lost) (λ q. q.capacity) queue_waits queue_waited QueueOffers r d d'
+    → Handles queue_end e r d d'
+    → (station_met queue_end queue_waits queue_waited r d d'
+    ≡ station_of queue_end queue_waits d)
+    × AreMet queue_end queue_waits queue_waited r d d'
 queues_stand e Idle d d' h = (refl, tt)
 queues_stand e Fault d d' h = (refl, tt)
 queues_stand e (Captured n) d d' h =
     let is =
     queues_stood (λ m. scan_of d.standing.shape m.mask.bits (values_of d.site.driver d.standing.shape e.t) e.t) d.standing.members d'.standing.members h.2.2 in
-    (ap (λ (ms : List Member). station_with (λ (q : Queue). q.lost) (λ q. q.capacity) ms d) is.0, is.1)
+    (ap (λ (ms : List Member). station_with queue_end ms d) is.0, is.1)
 
 -- ---- rings
 
@@ -227,7 +229,7 @@ left_length n w = length_of_map (λ (s : Sent). s.scan) (drop n (accepted w.know
 
 pub rings_are_met : (old new : WriterEnd) (scan : List ℕ) (answer : Offered) → WriterOffers old scan answer new
     → new.knows.seen ≤ length (accepted old.knows.offers)
-    → IsMet (λ (w : WriterEnd). lost_in w.knows.offers) (λ w. w.capacity) writer_waits writer_waited scan answer old new
+    → IsMet writer_end writer_waits writer_waited scan answer old new
 rings_are_met old new scan Taken o few =
     let few' : new.knows.seen ≤ length (map (λ (s : Sent). s.scan) (accepted old.knows.offers)) = grind (arith, common_steps) in
     let offers : new.knows.offers ≡ old.knows.offers ++ Accepted scan ∷ [] = ap (λ (w : Writing). w.offers) o.1.1 in (

@@ -16,6 +16,7 @@ use Rattle.iio_sensor.specs.Driver.{ask_fails, value_of}
 use Rattle.iio_trigger.specs.declared.rows.Place.{Place}
 use Rattle.iio_trigger.specs.Trigger.{State, holds_place, with_place, without_place}
 use Rattle.iio_event.specs.Monitor.{after_close, after_open, after_read, close_answer, open_answer, read_answer}
+use Rattle.iio_kfifo.specs.declared.tail.Tail.{Ghosts}
 use Rattle.iio_device.specs.declared.handling.RawFault.TheVariants as raw
 use Rattle.iio_device.specs.declared.membership.Member.{Member as MemberNumber}
 use Rattle.iio_device.specs.declared.membership.Membership.{Membership}
@@ -71,30 +72,30 @@ empty_map f xs = search rules
 
 -- ---- attributes, the trigger, thresholds, the end
 
-module _ {Q : Type 0} (lost capacity : Q → ℕ) (waits : Q → List (List ℕ)) where
+module _ {Q : Type 0} (ends : Ghosts Q) (waits : Q → List (List ℕ)) where
   abbrev seen : DeviceView Q → Station
-  seen d = station_of lost capacity waits d
+  seen d = station_of ends waits d
 
-  pub writes_agree : (m : Machine) (dev : ℕ) (channel : Option ℕ) (a : Attr) (v : Fixed) (d : DeviceView Q) → IsAt lost capacity waits m dev d
-      → Does lost capacity waits (write_attr_of m dev channel a v) (write_answer d) dev (after_write channel a v d)
+  pub writes_agree : (m : Machine) (dev : ℕ) (channel : Option ℕ) (a : Attr) (v : Fixed) (d : DeviceView Q) → IsAt ends waits m dev d
+      → Does ends waits (write_attr_of m dev channel a v) (write_answer d) dev (after_write channel a v d)
   unfolding write_attr_of
   writes_agree m dev channel a v d here = search (rules, station_here, at_changed)
 
-  pub triggers_agree : (m : Machine) (dev : ℕ) (trigger : Option ℕ) (d : DeviceView Q) → IsAt lost capacity waits m dev d
-      → Does lost capacity waits (set_trigger_of m dev trigger) (trigger_answer d) dev (after_trigger trigger d)
+  pub triggers_agree : (m : Machine) (dev : ℕ) (trigger : Option ℕ) (d : DeviceView Q) → IsAt ends waits m dev d
+      → Does ends waits (set_trigger_of m dev trigger) (trigger_answer d) dev (after_trigger trigger d)
   unfolding set_trigger_of
   triggers_agree m dev trigger d here = search (rules, station_here, at_changed)
 
-  pub samples_agree : (front : Front) (m : Machine) (dev c : ℕ) (d : DeviceView Q) → IsAt lost capacity waits m dev d → kind_at front dev ≡ Input
+  pub samples_agree : (front : Front) (m : Machine) (dev c : ℕ) (d : DeviceView Q) → IsAt ends waits m dev d → kind_at front dev ≡ Input
       → shape_at front dev ≡ d.standing.shape
-      → Does lost capacity waits (read_attr_of front m dev (Some c) attr.Raw) (raw_value (raw_answer c m.clock d)) dev (after_raw d)
+      → Does ends waits (read_attr_of front m dev (Some c) attr.Raw) (raw_value (raw_answer c m.clock d)) dev (after_raw d)
   unfolding read_attr_of
   samples_agree front m dev c d here input shaped =
-      rw (station_here m dev (seen d) here, input, shaped, empty_map (λ (x : Membership Q). member_with lost capacity (waits x.tail) x) d.standing.members)
+      rw (station_here m dev (seen d) here, input, shaped, empty_map (λ (x : Membership Q). member_with ends (waits x.tail) x) d.standing.members)
       (by (value_of d.site.driver d.standing.shape m.clock c 0) d.site.plugged (is_empty d.standing.members) (ask_fails d.site.driver))
     where
       by : (sample : ℤ) (p e f : Bool)
-          → Does lost capacity waits
+          → Does ends waits
           (let o : CallResult Value =
           record {
             answer = ensure p ENODEV >>= (λ plugged. ensure e EBUSY >>= (λ free. ensure (not f) EIO >>= (λ answered. Ok (Int sample))));
@@ -105,36 +106,36 @@ module _ {Q : Type 0} (lost capacity : Q → ℕ) (waits : Q → List (List ℕ)
           (cond (p && e) (at_site (sampled d.site) d) d)
       by sample p e f = search (rules, at_changed)
 
-  pub reads_agree : (front : Front) (m : Machine) (dev : ℕ) (channel : Option ℕ) (a : Attr) (d : DeviceView Q) → IsAt lost capacity waits m dev d
+  pub reads_agree : (front : Front) (m : Machine) (dev : ℕ) (channel : Option ℕ) (a : Attr) (d : DeviceView Q) → IsAt ends waits m dev d
       → device_name front dev ≡ d.name
       → is_raw channel a ≡ false → d.site.plugged ≡ true
-      → Does lost capacity waits (read_attr_of front m dev channel a) (Ok (attr_value d.name channel a d.site)) dev d
+      → Does ends waits (read_attr_of front m dev channel a) (Ok (attr_value d.name channel a d.site)) dev d
   unfolding read_attr_of
   reads_agree front m dev channel a d here named kept plugged = search (rules, station_here)
 
-  pub looks_agree : (m : Machine) (dev : ℕ) (t : ℤ) (d : DeviceView Q) → IsAt lost capacity waits m dev d
-      → IsAt lost capacity waits (with_station (station_after_look d.standing.shape t) dev m) dev (after_sense t d)
+  pub looks_agree : (m : Machine) (dev : ℕ) (t : ℤ) (d : DeviceView Q) → IsAt ends waits m dev d
+      → IsAt ends waits (with_station (station_after_look d.standing.shape t) dev m) dev (after_sense t d)
   looks_agree m dev t d here = search (rules, at_changed)
 
-  pub unpluggings_agree : (m : Machine) (dev : ℕ) (d : DeviceView Q) → IsAt lost capacity waits m dev d
-      → IsAt lost capacity waits (with_station (with_site unplugged) dev m) dev (at_site (unplugged d.site) d)
+  pub unpluggings_agree : (m : Machine) (dev : ℕ) (d : DeviceView Q) → IsAt ends waits m dev d
+      → IsAt ends waits (with_station (with_site unplugged) dev m) dev (at_site (unplugged d.site) d)
   unpluggings_agree m dev d here = at_changed m dev (seen d) (with_site unplugged) here
 
   -- ---- events
 
-  pub holdings_agree : (m : Machine) (dev who : ℕ) (d : DeviceView Q) → IsAt lost capacity waits m dev d → d.site.plugged ≡ true
-      → Does lost capacity waits (ev_open_of m dev who) (map_err held_errno (open_answer d.site.monitor)) dev (at_site (with_monitor (after_open who) d.site) d)
+  pub holdings_agree : (m : Machine) (dev who : ℕ) (d : DeviceView Q) → IsAt ends waits m dev d → d.site.plugged ≡ true
+      → Does ends waits (ev_open_of m dev who) (map_err held_errno (open_answer d.site.monitor)) dev (at_site (with_monitor (after_open who) d.site) d)
   unfolding ev_open_of
   holdings_agree m dev who d here plugged = search (rules, station_here, at_changed)
 
-  pub events_agree : (m : Machine) (dev who : ℕ) (d : DeviceView Q) → IsAt lost capacity waits m dev d → d.site.plugged ≡ true
-      → Does lost capacity waits (ev_read_of m dev who) (map_err holder_errno (read_answer (λ a b. a == b) who d.site.monitor)) dev
+  pub events_agree : (m : Machine) (dev who : ℕ) (d : DeviceView Q) → IsAt ends waits m dev d → d.site.plugged ≡ true
+      → Does ends waits (ev_read_of m dev who) (map_err holder_errno (read_answer (λ a b. a == b) who d.site.monitor)) dev
       (at_site (with_monitor (after_read (λ a b. a == b) who) d.site) d)
   unfolding ev_read_of
   events_agree m dev who d here plugged = search (rules, station_here, at_changed)
 
-  pub releases_agree : (m : Machine) (dev who : ℕ) (d : DeviceView Q) → IsAt lost capacity waits m dev d
-      → Does lost capacity waits (ev_close_of m dev who) (map_err holder_errno (close_answer (λ a b. a == b) who d.site.monitor)) dev
+  pub releases_agree : (m : Machine) (dev who : ℕ) (d : DeviceView Q) → IsAt ends waits m dev d
+      → Does ends waits (ev_close_of m dev who) (map_err holder_errno (close_answer (λ a b. a == b) who d.site.monitor)) dev
       (at_site (with_monitor (after_close (λ a b. a == b) who) d.site) d)
   unfolding ev_close_of
   releases_agree m dev who d here = search (rules, station_here, at_changed)
@@ -154,35 +155,35 @@ pub agree : (gone a b c : Bool) (r : Option JoinFault) → first_refusal ((gone,
     → first_refusal ((gone, ENODEV) ∷ join_refusals a b c) ≡ option_and_then errno_of r
 agree gone a b c r e = search rules
 
-module _ {Q : Type 0} (lost capacity : Q → ℕ) (waits : Q → List (List ℕ)) where
+module _ {Q : Type 0} (ends : Ghosts Q) (waits : Q → List (List ℕ)) where
   abbrev pub member : Membership Q → Member
-  member m = member_with lost capacity (waits m.tail) m
+  member m = member_with ends (waits m.tail) m
 
   abbrev pub station : DeviceView Q → Station
-  station d = station_of lost capacity waits d
+  station d = station_of ends waits d
 
   pub without_is : (n : ℕ) (ms : List (Membership Q)) → without n (map member ms) ≡ map member (without_of n ms)
   without_is n ms = filter_map_is member (λ (m : Membership Q). not (m.number == n)) (λ (x : Member). not (is_seat_of n x)) ms (λ m. refl)
 
   -- what the member of that number lost
   pub lost_told : (n : ℕ) (ms : List (Membership Q))
-      → lost_by n (map member ms) ≡ option_map lost (option_map (λ (m : Membership Q). m.tail) (membership_of n ms))
+      → lost_by n (map member ms) ≡ option_map ends.lost (option_map (λ (m : Membership Q). m.tail) (membership_of n ms))
   lost_told n [] = refl
   lost_told n (m ∷ ms) = search (rules, lost_told n ms)
 
   lost_here : (n : ℕ) (r : Option Q) (ms : List (Membership Q)) → option_map (λ (m : Membership Q). m.tail) (membership_of n ms) ≡ r
-      → option_map lost r ≡ lost_by n (map member ms)
-  lost_here n r ms e = ap (λ (o : Option Q). option_map lost o) (sym e) ∙ sym (lost_told n ms)
+      → option_map ends.lost r ≡ lost_by n (map member ms)
+  lost_here n r ms e = ap (λ (o : Option Q). option_map ends.lost o) (sym e) ∙ sym (lost_told n ms)
 
   window_first : (n : ℕ) (d : DeviceView Q)
       → station_after_leave n (station d) ≡ (let st : Station =
       record (station d) { totals = with_left (lost_by n (map member d.standing.members)) d.totals; members = without n (map member d.standing.members) } in st)
   window_first n d = search rules
 
-  pub left_is : (n : ℕ) (r : Option Q) (d d' : DeviceView Q) (s s' : State) → LeavesDevice lost n r d d' s s'
-      → (option_map lost r ≡ lost_by n (station d).members) × (station_after_leave n (station d) ≡ station d')
+  pub left_is : (n : ℕ) (r : Option Q) (d d' : DeviceView Q) (s s' : State) → LeavesDevice ends n r d d' s s'
+      → (option_map ends.lost r ≡ lost_by n (station d).members) × (station_after_leave n (station d) ≡ station d')
   left_is n None d d' s s' j =
-      let told : option_map lost None ≡ lost_by n (map member d.standing.members)
+      let told : option_map ends.lost None ≡ lost_by n (map member d.standing.members)
       = lost_here n None d.standing.members (ap (λ (o : Option (Membership Q)). option_map (λ (m : Membership Q). m.tail) o) j.0) in
       let same : without n (map member d.standing.members) ≡ map member d.standing.members
       =
@@ -196,19 +197,19 @@ module _ {Q : Type 0} (lost capacity : Q → ℕ) (waits : Q → List (List ℕ)
             ∙ ap station (sym j.1),
       )
   left_is n (Some tail) d d' s s' j =
-      let told : option_map lost (Some tail) ≡ lost_by n (map member d.standing.members) = lost_here n (Some tail) d.standing.members j.0 in (
+      let told : option_map ends.lost (Some tail) ≡ lost_by n (map member d.standing.members) = lost_here n (Some tail) d.standing.members j.0 in (
         told,
         window_first n d
             ∙ ap (λ (o : Option ℕ). (let st : Station =
             record (station d) { totals = with_left o d.totals; members = without n (map member d.standing.members) } in st)) (sym told)
-            ∙ ap (λ (ms : List Member). (let st : Station = record (station d) { totals = with_lost (lost tail) d.totals; members = ms } in st))
+            ∙ ap (λ (ms : List Member). (let st : Station = record (station d) { totals = with_lost (ends.lost tail) d.totals; members = ms } in st))
             (without_is n d.standing.members)
             ∙ ap station (sym j.1),
       )
 
-  pub leaves_agree : (front : Front) (m : Machine) (dev n : ℕ) (r : Option Q) (d d' : DeviceView Q) (s s' : State) → LeavesDevice lost n r d d' s s'
-      → IsAt lost capacity waits m dev d → kind_at front dev ≡ Input
-      → (option_map lost r ≡ lost_by n (station d).members) × IsAt lost capacity waits (machine_after_close front m dev n) dev d'
+  pub leaves_agree : (front : Front) (m : Machine) (dev n : ℕ) (r : Option Q) (d d' : DeviceView Q) (s s' : State) → LeavesDevice ends n r d d' s s'
+      → IsAt ends waits m dev d → kind_at front dev ≡ Input
+      → (option_map ends.lost r ≡ lost_by n (station d).members) × IsAt ends waits (machine_after_close front m dev n) dev d'
   unfolding machine_after_close
   leaves_agree front m dev n r d d' s s' j here input = search (rules, left_is, at_left, at_changed)
 
@@ -226,11 +227,11 @@ module _ {Q : Type 0} (lost capacity : Q → ℕ) (waits : Q → List (List ℕ)
   refusals_are front m d mask s r good places e = search (rules, masks_are, agree)
 
   -- the device with another member
-  pub joined_is : (mask : Mask) (tail : Q) (d : DeviceView Q) → IsNewEnd lost waits tail
-      → station_after_join mask.bits (capacity tail) false None (station d) ≡ station (device_joined mask tail d)
+  pub joined_is : (mask : Mask) (tail : Q) (d : DeviceView Q) → IsNewEnd ends waits tail
+      → station_after_join mask.bits (ends.capacity tail) false None (station d) ≡ station (device_joined mask tail d)
   joined_is mask tail d fresh = rw (map-append member d.standing.members, fresh.none, fresh.unlost, empty_map member d.standing.members) refl
 
-  open_is : (front : Front) (m : Machine) (dev mask cap : ℕ) (d : DeviceView Q) (r : Option Errno) → IsAt lost capacity waits m dev d
+  open_is : (front : Front) (m : Machine) (dev mask cap : ℕ) (d : DeviceView Q) (r : Option Errno) → IsAt ends waits m dev d
       → kind_at front dev ≡ Input → shape_at front dev ≡ d.standing.shape
       → first_refusal (open_refusals front m.stations Input (own_host (station d) d.standing.shape mask (plain_masks (station d).members)) (station d))
       ≡ r
@@ -242,17 +243,17 @@ module _ {Q : Type 0} (lost capacity : Q → ℕ) (waits : Q → List (List ℕ)
   stated f o e = search rules
 
   refused_is : (o : CallResult ℕ) (m : Machine) (dev next : ℕ) (change : Machine → Machine) (d d' : DeviceView Q) (r : Option Errno)
-      → IsAt lost capacity waits m dev d → d' ≡ d
-      → o ≡ unless_made change m (unless_refused next r) → IsRefused lost capacity waits o m r dev d'
+      → IsAt ends waits m dev d → d' ≡ d
+      → o ≡ unless_made change m (unless_refused next r) → IsRefused ends waits o m r dev d'
   refused_is o m dev next change d d' r here same e = search rules
 
   pub joins_agree : (front : Front) (m : Machine) (dev : ℕ) (mask : Mask) (tail : Q) (r : Result MemberNumber (JoinRefused Q)) (d d' : DeviceView Q)
       (s s' : State)
-      → JoinsDevice mask tail r d d' s s' → IsAt lost capacity waits m dev d → kind_at front dev ≡ Input → shape_at front dev ≡ d.standing.shape
-      → is_bad_mask d.standing.shape mask.bits ≡ false → SamePlaces front m d s → IsNewEnd lost waits tail
-      → IsJoined lost capacity waits (open_of front m dev mask.bits (capacity tail) false) m r dev d'
+      → JoinsDevice mask tail r d d' s s' → IsAt ends waits m dev d → kind_at front dev ≡ Input → shape_at front dev ≡ d.standing.shape
+      → is_bad_mask d.standing.shape mask.bits ≡ false → SamePlaces front m d s → IsNewEnd ends waits tail
+      → IsJoined ends waits (open_of front m dev mask.bits (ends.capacity tail) false) m r dev d'
   joins_agree front m dev mask tail (Ok x) d d' s s' j here input shaped good places fresh =
-      let o = open_is front m dev mask.bits (capacity tail) d None here input shaped (refusals_are front m d mask.bits s None good places j.0) in
+      let o = open_is front m dev mask.bits (ends.capacity tail) d None here input shaped (refusals_are front m d mask.bits s None good places j.0) in
       record {
         answered = ap (λ (y : CallResult ℕ). y.answer) o ∙ ap (λ (n : ℕ). (let r : Result ℕ Errno = Ok n in r)) (sym j.1);
         device = search (rules, at_joined, joined_is);
@@ -260,10 +261,10 @@ module _ {Q : Type 0} (lost capacity : Q → ℕ) (waits : Q → List (List ℕ)
   joins_agree front m dev mask tail (Err x) d d' s s' j here input shaped good places fresh =
       let refusal = first_refusal (join_faults d mask.bits (Some s)) in
       let o =
-      open_is front m dev mask.bits (capacity tail) d (errno_of x.fault) here input shaped
+      open_is front m dev mask.bits (ends.capacity tail) d (errno_of x.fault) here input shaped
       (refusals_are front m d mask.bits s refusal good places refl ∙ stated x.fault refusal j.0) in
-      refused_is (open_of front m dev mask.bits (capacity tail) false) m dev d.standing.next
-      (all_joined front dev (station_after_join mask.bits (capacity tail) false None)) d d' (errno_of x.fault) here j.2 o
+      refused_is (open_of front m dev mask.bits (ends.capacity tail) false) m dev d.standing.next
+      (all_joined front dev (station_after_join mask.bits (ends.capacity tail) false None)) d d' (errno_of x.fault) here j.2 o
 
   -- ---- places
 
@@ -291,12 +292,12 @@ module _ {Q : Type 0} (lost capacity : Q → ℕ) (waits : Q → List (List ℕ)
   fewer_members n ms e = search rules
 
   join_places : (t : ℕ) (mask : Mask) (tail : Q) (r : Result MemberNumber (JoinRefused Q)) (d d' : DeviceView Q) (s s' : State) → d.site.trigger ≡ Some t
-      → IsPlaced lost capacity waits t d s
-      → JoinsDevice mask tail r d d' s s' → IsPlaced lost capacity waits t d' s'
+      → IsPlaced ends waits t d s
+      → JoinsDevice mask tail r d d' s s' → IsPlaced ends waits t d' s'
   join_places t mask tail r d d' s s' own placed j = search (rules, join_placed)
 
-  leave_places : (t n : ℕ) (r : Option Q) (d d' : DeviceView Q) (s s' : State) → d.site.trigger ≡ Some t → IsPlaced lost capacity waits t d s
-      → LeavesDevice lost n r d d' s s' → IsPlaced lost capacity waits t d' s'
+  leave_places : (t n : ℕ) (r : Option Q) (d d' : DeviceView Q) (s s' : State) → d.site.trigger ≡ Some t → IsPlaced ends waits t d s
+      → LeavesDevice ends n r d d' s s' → IsPlaced ends waits t d' s'
   leave_places t n None d d' s s' own placed j = rw (j.1, j.2) placed
   leave_places t n (Some tail) d d' s s' own placed j =
       let trigger : d'.site.trigger ≡ Some t = ap (λ (v : DeviceView Q). v.site.trigger) j.1 ∙ own in
@@ -309,7 +310,7 @@ module _ {Q : Type 0} (lost capacity : Q → ℕ) (waits : Q → List (List ℕ)
       ∙ sym (attached_is t d' trigger)
 
   pub places_agree : (t n : ℕ) (mask : Mask) (tail : Q) (r : Result MemberNumber (JoinRefused Q)) (given : Option Q) (d d' : DeviceView Q) (s s' : State)
-      → d.site.trigger ≡ Some t → IsPlaced lost capacity waits t d s
-      → (JoinsDevice mask tail r d d' s s' → IsPlaced lost capacity waits t d' s')
-      × (LeavesDevice lost n given d d' s s' → IsPlaced lost capacity waits t d' s')
+      → d.site.trigger ≡ Some t → IsPlaced ends waits t d s
+      → (JoinsDevice mask tail r d d' s s' → IsPlaced ends waits t d' s')
+      × (LeavesDevice ends n given d d' s s' → IsPlaced ends waits t d' s')
   places_agree t n mask tail r given d d' s s' own placed = search (rules, join_places, leave_places)

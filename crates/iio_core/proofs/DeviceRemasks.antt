@@ -8,6 +8,7 @@ use Rattle.iio_text.specs.declared.errors.Errno.{Errno}
 use Rattle.iio_text.specs.declared.errors.Errno.TheVariants.{EBADF, EINVAL, ENODEV}
 use Rattle.iio_mask.specs.declared.Mask.{Mask}
 use Rattle.iio_trigger.specs.Trigger.{State}
+use Rattle.iio_kfifo.specs.declared.tail.Tail.{Ghosts}
 use Rattle.iio_device.specs.declared.membership.Membership.{Membership}
 use Rattle.iio_device.specs.declared.roster.RemaskFault.{RemaskFault}
 use Rattle.iio_device.specs.declared.roster.RemaskFault.TheVariants as fault
@@ -40,12 +41,12 @@ scans_are : (id : MemberId) (xs : List Member) → scans_in id xs ≡ option_map
 scans_are id [] = refl
 scans_are id (x ∷ xs) = search (rules, scans_are id xs)
 
-module _ {Q : Type 0} (lost capacity : Q → ℕ) (waits : Q → List (List ℕ)) where
+module _ {Q : Type 0} (ends : Ghosts Q) (waits : Q → List (List ℕ)) where
   abbrev told : Membership Q → Member
-  told m = member lost capacity waits m
+  told m = member ends waits m
 
   abbrev seen : DeviceView Q → Station
-  seen d = station lost capacity waits d
+  seen d = station ends waits d
 
   abbrev Knows : MemberId → List (Membership Q) → Type 0
   Knows id ms = IfSome (membership_of id.number ms) (λ (m : Membership Q). m.mask.bits ≡ id.mask)
@@ -56,22 +57,21 @@ module _ {Q : Type 0} (lost capacity : Q → ℕ) (waits : Q → List (List ℕ)
   found_is id (m ∷ ms) knows = search (rules, found_is id ms)
 
   -- the members after that of the number began anew
-  members_are : (n : ℕ) (mask : Mask) (captures : ℕ) (tail : Q) (ms : List (Membership Q)) → IsNewEnd lost waits tail
-      → map (with_mask n mask.bits (capacity tail)) (map told ms) ≡ map told (remasked_members n mask captures tail ms)
+  members_are : (n : ℕ) (mask : Mask) (captures : ℕ) (tail : Q) (ms : List (Membership Q)) → IsNewEnd ends waits tail
+      → map (with_mask n mask.bits (ends.capacity tail)) (map told ms) ≡ map told (remasked_members n mask captures tail ms)
   members_are n mask captures tail [] fresh = refl
   members_are n mask captures tail (m ∷ ms) fresh = search (rules, members_are n mask captures tail ms fresh)
 
   -- the device after the exchange
-  pub remasked_is : (id : MemberId) (mask : Mask) (tail before : Q) (d d' : DeviceView Q) → RemasksDevice lost id.number mask tail (Ok before) d d'
-      → IsNewEnd lost waits tail
-      → station_after_remask id.number mask.bits (capacity tail) (seen d) ≡ seen d'
+  pub remasked_is : (id : MemberId) (mask : Mask) (tail before : Q) (d d' : DeviceView Q) → RemasksDevice ends id.number mask tail (Ok before) d d'
+      → IsNewEnd ends waits tail
+      → station_after_remask id.number mask.bits (ends.capacity tail) (seen d) ≡ seen d'
   remasked_is id mask tail before d d' j fresh =
-      let gone : lost_by id.number (map told d.standing.members) ≡ Some (lost before)
-      = lost_told lost capacity waits id.number d.standing.members ∙ ap (λ (o : Option Q). option_map lost o) j.1 in
-      ap (λ (o : Option ℕ). (let st : Station =
-      record (seen d) { totals = with_left o d.totals; members = map (with_mask id.number mask.bits (capacity tail)) (map told d.standing.members) } in st))
-      gone
-      ∙ ap (λ (ms : List Member). (let st : Station = record (seen d) { totals = with_lost (lost before) d.totals; members = ms } in st))
+      let gone : lost_by id.number (map told d.standing.members) ≡ Some (ends.lost before)
+      = lost_told ends waits id.number d.standing.members ∙ ap (λ (o : Option Q). option_map ends.lost o) j.1 in
+      let masked : List Member = map (with_mask id.number mask.bits (ends.capacity tail)) (map told d.standing.members) in
+      ap (λ (o : Option ℕ). (let st : Station = record (seen d) { totals = with_left o d.totals; members = masked } in st)) gone
+      ∙ ap (λ (ms : List Member). (let st : Station = record (seen d) { totals = with_lost (ends.lost before) d.totals; members = ms } in st))
       (members_are id.number mask d.standing.captures tail d.standing.members fresh)
       ∙ ap seen (sym j.2)
 
@@ -94,15 +94,15 @@ module _ {Q : Type 0} (lost capacity : Q → ℕ) (waits : Q → List (List ℕ)
       ∙ live_found id.number d.standing.members in
       let others : plain_masks (without id.number (map told d.standing.members)) ≡ masks_of (without_of id.number d.standing.members)
       =
-      ap plain_masks (without_is lost capacity waits id.number d.standing.members)
-      ∙ masks_are lost capacity waits (without_of id.number d.standing.members) in
+      ap plain_masks (without_is ends waits id.number d.standing.members)
+      ∙ masks_are ends waits (without_of id.number d.standing.members) in
       rw (dead, others) (agree (not d.site.plugged) (not (is_live id.number d.standing.members))
       (is_without_union d.standing.shape (masks_of (without_of id.number d.standing.members)) mask) r here)
     where
       none_map : (o : Option (Membership Q)) → is_none (option_map told o) ≡ is_none o
       none_map o = search rules
 
-  remask_is : (front : Front) (m : Machine) (dev : ℕ) (id : MemberId) (mask scans : ℕ) (d : DeviceView Q) (r : Option Errno) → IsAt lost capacity waits m dev d
+  remask_is : (front : Front) (m : Machine) (dev : ℕ) (id : MemberId) (mask scans : ℕ) (d : DeviceView Q) (r : Option Errno) → IsAt ends waits m dev d
       → shape_at front dev ≡ d.standing.shape
       → first_refusal (remask_refusals d.standing.shape (seen d) id mask) ≡ r
       → remask_of front m dev id mask scans
@@ -114,16 +114,16 @@ module _ {Q : Type 0} (lost capacity : Q → ℕ) (waits : Q → List (List ℕ)
   stated f o e = search rules
 
   refused_is : (o : CallResult ℕ) (m : Machine) (dev n : ℕ) (change : Station → Station) (d d' : DeviceView Q) (r : Option Errno)
-      → IsAt lost capacity waits m dev d → d' ≡ d
-      → o ≡ unless change dev m (unless_refused n r) → IsRefused lost capacity waits o m r dev d'
+      → IsAt ends waits m dev d → d' ≡ d
+      → o ≡ unless change dev m (unless_refused n r) → IsRefused ends waits o m r dev d'
   refused_is o m dev n change d d' r here same e = search rules
 
   pub remasks_agree : (front : Front) (m : Machine) (dev : ℕ) (id : MemberId) (mask : Mask) (tail : Q) (r : Result Q (RemaskRefused Q)) (d d' : DeviceView Q)
-      → RemasksDevice lost id.number mask tail r d d' → IsAt lost capacity waits m dev d → shape_at front dev ≡ d.standing.shape
-      → is_bad_mask d.standing.shape mask.bits ≡ false → IsSeatAt id d → IsNewEnd lost waits tail
-      → IsRemasked lost capacity waits (remask_of front m dev id mask.bits (capacity tail)) m r dev d'
+      → RemasksDevice ends id.number mask tail r d d' → IsAt ends waits m dev d → shape_at front dev ≡ d.standing.shape
+      → is_bad_mask d.standing.shape mask.bits ≡ false → IsSeatAt id d → IsNewEnd ends waits tail
+      → IsRemasked ends waits (remask_of front m dev id mask.bits (ends.capacity tail)) m r dev d'
   remasks_agree front m dev id mask tail (Ok before) d d' j here shaped good knows fresh =
-      let o = remask_is front m dev id mask.bits (capacity tail) d None here shaped (refusals_are id mask.bits d None good knows j.0) in
+      let o = remask_is front m dev id mask.bits (ends.capacity tail) d None here shaped (refusals_are id mask.bits d None good knows j.0) in
       record {
         answered = search (rules, waited_is);
         device = grind (arith, common_steps, at_changed, remasked_is);
@@ -131,13 +131,13 @@ module _ {Q : Type 0} (lost capacity : Q → ℕ) (waits : Q → List (List ℕ)
   remasks_agree front m dev id mask tail (Err x) d d' j here shaped good knows fresh =
       let refusal = first_refusal (remask_faults d id.number mask.bits) in
       let o =
-      remask_is front m dev id mask.bits (capacity tail) d (remask_errno x.fault) here shaped
+      remask_is front m dev id mask.bits (ends.capacity tail) d (remask_errno x.fault) here shaped
       (refusals_are id mask.bits d refusal good knows refl ∙ stated x.fault refusal j.0) in
-      refused_is (remask_of front m dev id mask.bits (capacity tail)) m dev (length (scans_in id (map told d.standing.members)))
-      (station_after_remask id.number mask.bits (capacity tail)) d d' (remask_errno x.fault) here j.2 o
+      refused_is (remask_of front m dev id mask.bits (ends.capacity tail)) m dev (length (scans_in id (map told d.standing.members)))
+      (station_after_remask id.number mask.bits (ends.capacity tail)) d d' (remask_errno x.fault) here j.2 o
 
   -- ---- places
 
   pub remasks_stay : (t n : ℕ) (mask : Mask) (tail : Q) (r : Result Q (RemaskRefused Q)) (d d' : DeviceView Q) (s : State)
-      → RemasksDevice lost n mask tail r d d' → IsPlaced lost capacity waits t d s → IsPlaced lost capacity waits t d' s
+      → RemasksDevice ends n mask tail r d d' → IsPlaced ends waits t d s → IsPlaced ends waits t d' s
   remasks_stay t n mask tail r d d' s j placed = search (rules, empty_map)

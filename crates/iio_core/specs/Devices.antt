@@ -1,11 +1,12 @@
 -- The station of an input device, by its own view, whatever queues its members have; and how the laws of its calls say what
 -- becomes of it in the plain state. No member of it is an inner one. (Kernel, driver-api/iio: one device serves several
 -- buffers. What a queue's end tells is this project's own.)
-use Rattle.std.specs.Prelude.{◌≡◌, ℕ, ◌+◌, ◌≤◌, ◌<◌, false, List, [], ◌∷◌, ◌++◌, map, length, drop, slice_get, Option, Some, None, Result, Ok, Err, if◌then◌else◌}
+use Rattle.std.specs.Prelude.{◌≡◌, ℕ, ◌+◌, ◌≤◌, ◌<◌, false, List, [], ◌∷◌, ◌++◌, map, length, drop, slice_get, Option, Some, None, Result, Ok, Err}
 use Rattle.std.specs.List.{AllZip}
 use Rattle.iio_text.specs.declared.errors.Errno.{Errno}
 use Rattle.iio_kfifo.specs.declared.tail.Offered.{Offered}
 use Rattle.iio_kfifo.specs.declared.tail.Offered.TheVariants.{Taken, Lost}
+use Rattle.iio_kfifo.specs.declared.tail.Tail.{Ghosts}
 use Rattle.iio_kfifo.specs.declared.view.Sent.{Sent}
 use Rattle.iio_kfifo.specs.Ends.{WriterEnd}
 use Rattle.iio_kfifo.specs.Offers.{accepted}
@@ -25,11 +26,12 @@ use Rattle.iio_core.specs.Faults.{errno_of, remask_errno}
 
 -- ---- a device
 
-module _ {Q : Type 0} (lost capacity : Q → ℕ) where
+-- over any kind of queue's end; `ends` is what such an end tells, the ghost members of `Tail`
+module _ {Q : Type 0} (ends : Ghosts Q) where
   -- a member for which these scans wait
   abbrev pub member_with : List (List ℕ) → Membership Q → Member
   member_with scans m =
-      record { number = m.number; mask = m.mask.bits; capacity = capacity m.tail; scans = scans; lost = lost m.tail; cyclic = false; inner = None }
+      record { number = m.number; mask = m.mask.bits; capacity = ends.capacity m.tail; scans = scans; lost = ends.lost m.tail; cyclic = false; inner = None }
 
   -- the station of a device that has these members
   abbrev pub station_with : List Member → DeviceView Q → Station
@@ -84,8 +86,8 @@ module _ {Q : Type 0} (lost capacity : Q → ℕ) where
       -- an offer that makes `new` of `old`: if the queue that it met has room, the scan comes after those that waited;
       -- otherwise it is lost and counted
       abbrev pub IsMet : List ℕ → Offered → (old new : Q) → Type 0
-      IsMet scan Taken old new = (length (waited old new) < capacity old) × (lost new ≡ lost old) × (waits new ≡ waited old new ++ scan ∷ [])
-      IsMet scan Lost old new = (capacity old ≤ length (waited old new)) × (lost new ≡ lost old + 1) × (waits new ≡ waited old new)
+      IsMet scan Taken old new = (length (waited old new) < ends.capacity old) × (ends.lost new ≡ ends.lost old) × (waits new ≡ waited old new ++ scan ∷ [])
+      IsMet scan Lost old new = (ends.capacity old ≤ length (waited old new)) × (ends.lost new ≡ ends.lost old + 1) × (waits new ≡ waited old new)
 
       -- the members with the scans that waited for each when it was offered its scan
       abbrev pub members_met : List (Membership Q) → List (Membership Q) → List Member
@@ -99,11 +101,11 @@ module _ {Q : Type 0} (lost capacity : Q → ℕ) where
       station_met answer old new = station_of old
 
       -- each queue treats its offer in that way
-      abbrev pub AreMet : (Q → List ℕ → Offered → Q → Type 0) → Handled → (old new : DeviceView Q) → Type 0
-      AreMet offer_gives (handled.Captured members) old new =
-          AllZip (λ (a b : Membership Q). (scan : List ℕ) (answer : Offered) → offer_gives a.tail scan answer b.tail → IsMet scan answer a.tail b.tail)
+      abbrev pub AreMet : Handled → (old new : DeviceView Q) → Type 0
+      AreMet (handled.Captured members) old new =
+          AllZip (λ (a b : Membership Q). (scan : List ℕ) (answer : Offered) → ends.offer_gives a.tail scan answer b.tail → IsMet scan answer a.tail b.tail)
           old.standing.members new.standing.members
-      AreMet offer_gives answer old new = Unit {0}
+      AreMet answer old new = Unit {0}
 
 -- ---- what the kinds of ends that there are tell
 

@@ -14,21 +14,21 @@ pub use limits::MAX_SCANS;
 /// What each call of a device makes of the device's own view agrees with what the plain state makes of the device, for any kind
 /// of queue's end that its members have.
 pub fn device_law<Q: Tail>()
-    ensures joins { JoinsAgree Q.lost Q.capacity }
-    ensures leaves { LeavesAgree Q.lost Q.capacity }
-    ensures remasks { RemasksAgree Q.lost Q.capacity }
-    ensures stay { RemasksStay Q.lost Q.capacity }
-    ensures places { PlacesAgree Q.lost Q.capacity }
-    ensures handlings { HandlingsAgree Q.taken Q.lost Q.size Q.capacity Q.offer_gives }
-    ensures writes { WritesAgree Q.lost Q.capacity }
-    ensures triggers { TriggersAgree Q.lost Q.capacity }
-    ensures samples { SamplesAgree Q.lost Q.capacity }
-    ensures reads { ReadsAgree Q.lost Q.capacity }
-    ensures looks { LooksAgree Q.lost Q.capacity }
-    ensures unpluggings { UnpluggingsAgree Q.lost Q.capacity }
-    ensures holdings { HoldingsAgree Q.lost Q.capacity }
-    ensures events { EventsAgree Q.lost Q.capacity }
-    ensures releases { ReleasesAgree Q.lost Q.capacity }
+    ensures joins { JoinsAgree Q.Tail }
+    ensures leaves { LeavesAgree Q.Tail }
+    ensures remasks { RemasksAgree Q.Tail }
+    ensures stay { RemasksStay Q.Tail }
+    ensures places { PlacesAgree Q.Tail }
+    ensures handlings { HandlingsAgree Q.Tail }
+    ensures writes { WritesAgree Q.Tail }
+    ensures triggers { TriggersAgree Q.Tail }
+    ensures samples { SamplesAgree Q.Tail }
+    ensures reads { ReadsAgree Q.Tail }
+    ensures looks { LooksAgree Q.Tail }
+    ensures unpluggings { UnpluggingsAgree Q.Tail }
+    ensures holdings { HoldingsAgree Q.Tail }
+    ensures events { EventsAgree Q.Tail }
+    ensures releases { ReleasesAgree Q.Tail }
 {}
 
 /// The kinds of queues that there are treat an offer as a bounded queue does.

@@ -1,6 +1,5 @@
 -- What entries make of a scan, one entry after another.
-use Rattle.std.proofs.Common.{◌≡◌, ℕ, ◌+◌, ◌<◌, ◌≤◌, true, false, cond, List, [], ◌∷◌, refl, sym, ◌∙◌, inl, inr, arith, slice_index, nat_lt}
-use Rattle.std.proofs.lemmas.Bool.{cases_lt}
+use Rattle.std.proofs.Common.{◌≡◌, ℕ, ◌+◌, ◌<◌, ◌≤◌, true, false, cond, List, [], ◌∷◌, refl, arith, slice_index, nat_lt, rules}
 use Rattle.std.proofs.lemmas.Bool.Decides.{nat_tests}
 use Rattle.iio_demux.specs.declared.table.Entry.{Entry}
 use Rattle.iio_demux.specs.Table.{AreInOrder, byte_at, covers, source_of}
@@ -36,15 +35,12 @@ byte_before : (active_size buffer_size low : ℕ) (entries : List Entry) (scan :
     → byte_at entries scan j ≡ 0
 byte_before active_size buffer_size low [] scan j order before = refl
 byte_before active_size buffer_size low (entry ∷ later) scan j order before =
-    byte_at-cons entry later scan j
-    ∙ rw (begins_after entry j (omega (arith, order.0)))
-    (byte_before active_size buffer_size (entry.to + entry.length) later scan j order.2 (omega (arith, order.0)))
+    search (rules, byte_at-cons, begins_after, byte_before active_size buffer_size (entry.to + entry.length) later scan j order.2 (omega (arith, order.0)))
 
 -- entries that stand from a byte on end no earlier
 pub order_within : (active_size buffer_size low : ℕ) (entries : List Entry) → AreInOrder active_size buffer_size low entries → low ≤ buffer_size
 order_within active_size buffer_size low [] order = order
-order_within active_size buffer_size low (entry ∷ later) order =
-    omega (arith, order.0, order_within active_size buffer_size (entry.to + entry.length) later order.2)
+order_within active_size buffer_size low (entry ∷ later) order = search (rules, order_within active_size buffer_size (entry.to + entry.length) later order.2)
 
 -- the bytes that are written before byte `start`, and those that the entries still to come make from there on
 abbrev pub so_far : (written : List ℕ) (start : ℕ) → List Entry → (scan : List ℕ) → ℕ → ℕ
@@ -57,23 +53,8 @@ pub copied_more : (active_size buffer_size start end : ℕ) (entry : Entry) (lat
     → (covers entry j ≡ true → slice_index new j ≡ source_of entry scan j)
     → so_far old start (entry ∷ later) scan j ≡ so_far new end later scan j
 copied_more active_size buffer_size start end entry later scan old new j order is_end kept gap bytes =
-    elim (cases_lt j start) [
-      | inl before ↦ rw (is_below j start before, is_below j end (omega (arith, order.0))) (sym (kept before))
-      | inr after ↦
-          rw (is_above j start after) (byte_at-cons entry later scan j
-          ∙ elim (cases_lt j entry.to) [
-            | inl unwritten ↦
-                rw (begins_after entry j unwritten, is_below j end (omega arith))
-                (byte_before active_size buffer_size (entry.to + entry.length) later scan j order.2 (omega arith) ∙ sym (gap after unwritten))
-            | inr from ↦
-                elim (cases_lt j (entry.to + entry.length)) [
-                  | inl own ↦ let inside = covers_within entry j from own in rw (inside, is_below j end (omega arith)) (sym (bytes inside))
-                  | inr past ↦ rw (ends_before entry j past, is_above j end (omega arith)) refl
-                ]
-          ])
-    ]
+    search (rules, is_below, is_above, byte_at-cons, begins_after, byte_before, covers_within, ends_before)
 
 -- all entries were copied
 pub copied_all : (end : ℕ) (scan written : List ℕ) (j : ℕ) → (end ≤ j → slice_index written j ≡ 0) → slice_index written j ≡ so_far written end [] scan j
-copied_all end scan written j zero =
-    elim (cases_lt j end) [ inl before ↦ rw (is_below j end before) refl | inr after ↦ rw (is_above j end after) (zero after) ]
+copied_all end scan written j h1 = search rules

@@ -1,40 +1,35 @@
 -- The entries of the channels before a channel: another channel, and where they lie.
-use Rattle.std.proofs.Common.{◌≡◌, ℕ, zero, suc, ◌+◌, ◌-◌, ◌/◌, ◌%◌, ◌^◌, ◌≤◌, max, Bool, true, false, cond, List, [], ◌∷◌, ◌++◌, map, filter, refl, sym, ap, ◌∙◌, inl, inr, arith, add-one, IsTrue}
+use Rattle.std.proofs.Common.{◌≡◌, ℕ, zero, suc, ◌+◌, ◌-◌, ◌/◌, ◌%◌, ◌^◌, ◌≤◌, max, Bool, true, false, cond, [], ◌∷◌, ◌++◌, map, filter, refl, sym, ap, ◌∙◌, inl, inr, arith, add-one, IsTrue, rules}
+use Rattle.std.proofs.lemmas.Grind.{common_steps}
 use Rattle.std.specs.Prelude.{◌==◌}
 use Rattle.std.specs.Int.{bit_at, next_multiple_of}
 use Rattle.std.specs.List.{range_with_len}
-use Rattle.std.proofs.lemmas.Bool.{cases_Bool, false≢true}
+use Rattle.std.proofs.lemmas.Bool.{cases_Bool}
 use Rattle.std.proofs.lemmas.Bool.Decides.{nat_tests}
 use Rattle.std.proofs.lemmas.Nat.{shr-shr}
 use Rattle.std.proofs.Math.Nat.{zero-div}
-use Rattle.std.proofs.lemmas.List.{map-append, append-nil}
 use Rattle.std.proofs.lemmas.List.Elements.{filter-append}
-use Rattle.iio_mask.specs.Mask.{has}
+use Rattle.iio_mask.specs.Mask.{has, channels_below}
 use Rattle.iio_layout.specs.Shape.{ShapeRecord, count_of, formats_of}
 use Rattle.iio_layout.specs.Layout.{end_below, largest_below, place_of, scan_size, size_at}
 use Rattle.iio_layout.specs.Laws.{end_grows}
 use Rattle.iio_layout.proofs.SelectedLemmas.{range_next}
-use Rattle.iio_demux.specs.Table.{AreInOrder, IsCopyTable, channel_entries, channel_entry, channels_below, table_of}
+use Rattle.iio_demux.specs.Table.{AreInOrder, IsCopyTable, channel_entries, channel_entry, table_of}
 use Rattle.iio_demux.proofs.MergeLemmas.{merged_apart, merged_in_order}
 
 -- another channel, selected or not
 channels_more : (mask n : ℕ) → channels_below mask (n + 1) ≡ channels_below mask n ++ cond (has mask n) (n ∷ []) []
-channels_more mask n =
-    ap (filter (λ c. has mask c)) (range_next n) ∙ filter-append (λ c. has mask c) (range_with_len 0 n) (n ∷ [])
+channels_more mask n = simp (range_next, filter-append)
 
 -- a channel of the buffer's mask adds an entry
 entries_more : (shape : ShapeRecord) (active buffer n : ℕ) → has buffer n ≡ true
     → channel_entries shape active buffer n ++ channel_entry shape active buffer n ∷ [] ≡ channel_entries shape active buffer (n + 1)
-entries_more shape active buffer n selected =
-    let channels : channels_below buffer (n + 1) ≡ channels_below buffer n ++ n ∷ [] = rw selected at (channels_more buffer n) in
-    sym (ap (map (channel_entry shape active buffer)) channels ∙ map-append (channel_entry shape active buffer) (channels_below buffer n) (n ∷ []))
+entries_more shape active buffer n selected = grind (arith, common_steps, channels_more)
 
 -- any other channel adds no entry
 pub entries_same : (shape : ShapeRecord) (active buffer n : ℕ) → has buffer n ≡ false
     → channel_entries shape active buffer n ≡ channel_entries shape active buffer (n + 1)
-entries_same shape active buffer n other =
-    let channels : channels_below buffer (n + 1) ≡ channels_below buffer n = rw other at (channels_more buffer n) ∙ append-nil (channels_below buffer n) in
-    sym (ap (map (channel_entry shape active buffer)) channels)
+entries_same shape active buffer n other = search (rules, channels_more)
 
 -- ---- where the channels end
 
@@ -73,10 +68,7 @@ ended mask n ends is_end is k later =
 entries_past : (shape : ShapeRecord) (active buffer n d m : ℕ) → m ≡ n + d → ((k : ℕ) → n ≤ k → has buffer k ≡ false)
     → channel_entries shape active buffer n ≡ channel_entries shape active buffer m
 entries_past shape active buffer n zero m is none = let same : n ≡ m = omega arith in ap (channel_entries shape active buffer) same
-entries_past shape active buffer n (suc d) m is none =
-    let next : n + d + 1 ≡ m = omega arith in
-    entries_past shape active buffer n d (n + d) refl none ∙ entries_same shape active buffer (n + d) (none (n + d) (omega arith))
-    ∙ ap (channel_entries shape active buffer) next
+entries_past shape active buffer n (suc d) m is none = grind (arith, common_steps, entries_same, entries_past shape active buffer n d (n + d) refl none)
 
 pub entries_rest : (shape : ShapeRecord) (active buffer n : ℕ) → n ≤ count_of shape → ((k : ℕ) → n ≤ k → has buffer k ≡ false)
     → channel_entries shape active buffer n ≡ channel_entries shape active buffer (count_of shape)
@@ -111,8 +103,7 @@ size_rest shape mask n end largest size within none is_end is_largest is_size =
 
 -- a channel that isn't in the active mask isn't in the buffer's mask
 pub outside : (active buffer n : ℕ) → ((c : ℕ) → IsTrue (has buffer c) → IsTrue (has active c)) → has active n ≡ false → has buffer n ≡ false
-outside active buffer n within other =
-    elim (cases_Bool (has buffer n)) [ inl selected ↦ absurd (false≢true (sym other ∙ within n selected)) | inr none ↦ none ]
+outside active buffer n within other = search rules
 
 -- the place that is computed from the end of the channels before it is the channel's
 place_is : (shape : ShapeRecord) (mask n end place size : ℕ) → end ≡ end_below (formats_of shape) mask n → size ≡ size_at (formats_of shape) n
@@ -125,8 +116,7 @@ pub pushed_entry : (shape : ShapeRecord) (active buffer n active_end buffer_end 
     → from ≡ next_multiple_of active_end size → to ≡ next_multiple_of buffer_end size
     → channel_entries shape active buffer n ++ record { from = from; to = to; length = size } ∷ [] ≡ channel_entries shape active buffer (n + 1)
 pushed_entry shape active buffer n active_end buffer_end from to size selected is_active is_buffer is_size is_from is_to =
-    rw (place_is shape active n active_end from size is_active is_size is_from, place_is shape buffer n buffer_end to size is_buffer is_size is_to, is_size)
-    (entries_more shape active buffer n selected)
+    search (rules, place_is, entries_more)
 
 -- ---- where the entries lie
 
@@ -135,8 +125,7 @@ lie_from : (shape : ShapeRecord) (active buffer a n active_size buffer_size : �
     → end_below (formats_of shape) active (a + n) ≤ active_size → end_below (formats_of shape) buffer (a + n) ≤ buffer_size
     → AreInOrder active_size buffer_size (end_below (formats_of shape) buffer a)
     (map (channel_entry shape active buffer) (filter (λ c. has buffer c) (range_with_len a n)))
-lie_from shape active buffer a zero active_size buffer_size within active_end buffer_end =
-    let grows = end_grows (formats_of shape) buffer a (a + 0) (omega arith) in omega (arith, grows)
+lie_from shape active buffer a zero active_size buffer_size within active_end buffer_end = search rules
 lie_from shape active buffer a (suc n) active_size buffer_size within active_end buffer_end =
     let formats = formats_of shape in
     let sum : a + 1 + n ≡ a + suc n = omega arith in

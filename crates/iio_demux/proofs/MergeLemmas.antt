@@ -1,9 +1,9 @@
 -- Merged entries: another entry at the end, where they lie, and what they make of a scan.
-use Rattle.std.proofs.Common.{◌≡◌, ℕ, zero, suc, ◌+◌, ◌-◌, ◌≤◌, true, false, cond, List, [], ◌∷◌, ◌++◌, length, get_or, set, map, refl, sym, ap, subst, ◌∙◌, inl, inr, arith}
+use Rattle.std.proofs.Common.{◌≡◌, ℕ, zero, suc, ◌+◌, ◌-◌, ◌≤◌, true, false, cond, List, [], ◌∷◌, ◌++◌, length, get_or, set, map, refl, ap, ◌∙◌, inl, inr, arith, rules}
+use Rattle.std.proofs.lemmas.Grind.{common_steps}
 use Rattle.std.specs.List.{range_with_len}
 use Rattle.std.proofs.lemmas.Bool.{cases_Bool}
 use Rattle.std.proofs.lemmas.Bool.Decides.{nat_tests}
-use Rattle.std.proofs.lemmas.List.{get_or_default}
 use Rattle.iio_demux.specs.declared.table.Entry.{Entry}
 use Rattle.iio_demux.specs.Table.{AreInOrder, AreMerged, byte_at, continues, copied, covers, joined, merged, merged_before, source_of}
 
@@ -21,8 +21,7 @@ continues_first : (entry next last : Entry) → continues entry (joined next las
 continues_first entry next last = refl
 
 joined_joined : (a b c : Entry) → joined (joined a b) c ≡ joined a (joined b c)
-joined_joined a b c = let sum : a.length + b.length + c.length ≡ a.length + (b.length + c.length) = omega arith in
-    ap (λ n. record { from = a.from; to = a.to; length = n }) sum
+joined_joined a b c = search rules
 
 -- ---- another entry
 
@@ -33,43 +32,10 @@ with_last (last ∷ []) entry = cond (continues last entry) (joined last entry �
 with_last (first ∷ next ∷ later) entry = first ∷ with_last (next ∷ later) entry
 
 one_before_last : (entry one last : Entry) → merged_before entry (with_last (one ∷ []) last) ≡ with_last (merged_before entry (one ∷ [])) last
-one_before_last entry one last =
-    elim (cases_Bool (continues entry one)) [
-      | inl goes_on ↦
-          let first : merged_before entry (one ∷ []) ≡ joined entry one ∷ [] = rw goes_on refl in
-          elim (cases_Bool (continues one last)) [
-            | inl more ↦
-                let all : merged_before entry (joined one last ∷ []) ≡ joined entry (joined one last) ∷ [] = rw goes_on refl in
-                let both : with_last (joined entry one ∷ []) last ≡ joined (joined entry one) last ∷ [] =
-                rw (continues_joined entry one last goes_on ∙ more) refl in
-                let second : with_last (one ∷ []) last ≡ joined one last ∷ [] = rw more refl in
-                ap (merged_before entry) second ∙ all ∙ ap (λ j. j ∷ []) (sym (joined_joined entry one last)) ∙ sym both
-                ∙ ap (λ es. with_last es last) (sym first)
-            | inr none ↦
-                let all : merged_before entry (one ∷ last ∷ []) ≡ joined entry one ∷ last ∷ [] = rw goes_on refl in
-                let both : with_last (joined entry one ∷ []) last ≡ joined entry one ∷ last ∷ [] = rw (continues_joined entry one last goes_on ∙ none) refl in
-                let second : with_last (one ∷ []) last ≡ one ∷ last ∷ [] = rw none refl in
-                ap (merged_before entry) second ∙ all ∙ sym both ∙ ap (λ es. with_last es last) (sym first)
-          ]
-      | inr parted ↦
-          let first : merged_before entry (one ∷ []) ≡ entry ∷ one ∷ [] = rw parted refl in
-          elim (cases_Bool (continues one last)) [
-            | inl more ↦
-                let all : merged_before entry (joined one last ∷ []) ≡ entry ∷ joined one last ∷ [] = rw parted refl in
-                let second : with_last (one ∷ []) last ≡ joined one last ∷ [] = rw more refl in
-                ap (merged_before entry) second ∙ all ∙ ap (λ es. entry ∷ es) (sym second) ∙ ap (λ es. with_last es last) (sym first)
-            | inr none ↦
-                let all : merged_before entry (one ∷ last ∷ []) ≡ entry ∷ one ∷ last ∷ [] = rw parted refl in
-                let second : with_last (one ∷ []) last ≡ one ∷ last ∷ [] = rw none refl in
-                ap (merged_before entry) second ∙ all ∙ ap (λ es. entry ∷ es) (sym second) ∙ ap (λ es. with_last es last) (sym first)
-          ]
-    ]
+one_before_last entry one last = search rules
 
 before_last : (entry : Entry) (others : List Entry) (last : Entry) → merged_before entry (with_last others last) ≡ with_last (merged_before entry others) last
-before_last entry [] last = refl
-before_last entry (one ∷ []) last = one_before_last entry one last
-before_last entry (one ∷ next ∷ later) last =
-    elim (cases_Bool (continues entry one)) [ inl goes_on ↦ rw goes_on refl | inr parted ↦ rw parted refl ]
+before_last entry others last = search rules
 
 pub merged-push : (entries : List Entry) (last : Entry) → merged (entries ++ last ∷ []) ≡ with_last (merged entries) last
 merged-push [] last = refl
@@ -97,31 +63,19 @@ pub pushed_joined : (before items : List Entry) (n : ℕ) (last found entry : En
     → last ≡ get_or items n last → found ≡ get_or items n found → continues last entry ≡ true
     → set items n (record { from = found.from; to = found.to; length = found.length + entry.length }) ≡ merged (before ++ entry ∷ [])
 pushed_joined before items n last found entry is_merged many is_last is_found goes_on =
-    let same : found ≡ last = is_found ∙ get_or_default items n found last (omega arith) ∙ sym is_last in
-    let there : continues (get_or items n last) entry ≡ true = rw (← is_last) goes_on in
-    sym (merged-push before entry ∙ ap (λ es. with_last es entry) (sym is_merged) ∙ with_last-joined items n last entry many there
-    ∙ ap (λ e. set items n (joined e entry)) (sym is_last ∙ sym same))
+    grind (arith, common_steps, continues, merged-push, with_last-joined, set, joined)
 
 pub pushed_apart : (before items : List Entry) (n : ℕ) (last entry : Entry) → items ≡ merged before → n + 1 ≡ length items → last ≡ get_or items n last
     → continues last entry ≡ false → items ++ entry ∷ [] ≡ merged (before ++ entry ∷ [])
-pushed_apart before items n last entry is_merged many is_last parted =
-    let there : continues (get_or items n last) entry ≡ false = rw (← is_last) parted in
-    sym (merged-push before entry ∙ ap (λ es. with_last es entry) (sym is_merged) ∙ with_last-pushed items n last entry many there)
+pushed_apart before items n last entry is_merged many is_last parted = search (rules, continues, merged-push, with_last-pushed)
 
 pub pushed_alone : (before items : List Entry) (entry : Entry) → items ≡ merged before → length items ≤ 0 → items ++ entry ∷ [] ≡ merged (before ++ entry ∷ [])
-pushed_alone before [] entry is_merged none = sym (merged-push before entry ∙ ap (λ es. with_last es entry) (sym is_merged))
-pushed_alone before (e ∷ es) entry is_merged none = absurd (omega arith)
+pushed_alone before items entry is_merged none = grind (arith, common_steps, merged-push)
 
 -- ---- no two neighbours are contiguous on both sides
 
 merged_stays : (entry : Entry) (others : List Entry) → AreMerged others → AreMerged (merged_before entry others)
-merged_stays entry [] others = tt
-merged_stays entry (one ∷ []) others = elim (cases_Bool (continues entry one)) [ inl goes_on ↦ rw goes_on tt | inr parted ↦ rw parted (parted, tt) ]
-merged_stays entry (one ∷ next ∷ later) others =
-    elim (cases_Bool (continues entry one)) [
-      | inl goes_on ↦ rw goes_on (continues_joined entry one next goes_on ∙ others.0, others.1)
-      | inr parted ↦ rw parted (parted, others)
-    ]
+merged_stays entry others h1 = grind (arith, common_steps)
 
 pub merged_apart : (entries : List Entry) → AreMerged (merged entries)
 merged_apart [] = tt
@@ -131,23 +85,13 @@ merged_apart (entry ∷ others) = merged_stays entry (merged others) (merged_apa
 
 order_stays : (active_size buffer_size low : ℕ) (entry : Entry) (others : List Entry) → AreInOrder active_size buffer_size low (entry ∷ others)
     → AreInOrder active_size buffer_size low (merged_before entry others)
-order_stays active_size buffer_size low entry [] order = order
-order_stays active_size buffer_size low entry (one ∷ others) order =
-    elim (cases_Bool (continues entry one)) [
-      | inl goes_on ↦
-          let at = continues_tells entry one goes_on in
-          let end : one.to + one.length ≡ entry.to + (entry.length + one.length) = omega (arith, at) in
-          let Rest : ℕ → Type 0 = λ n. AreInOrder active_size buffer_size n others in
-          rw goes_on (order.0, omega (arith, at, order.2.1), subst Rest end order.2.2)
-      | inr parted ↦ rw parted order
-    ]
+order_stays active_size buffer_size low entry others order = search rules
 
 pub merged_in_order : (active_size buffer_size low : ℕ) (entries : List Entry) → AreInOrder active_size buffer_size low entries
     → AreInOrder active_size buffer_size low (merged entries)
 merged_in_order active_size buffer_size low [] order = order
 merged_in_order active_size buffer_size low (entry ∷ others) order =
-    order_stays active_size buffer_size low entry (merged others)
-    (order.0, order.1, merged_in_order active_size buffer_size (entry.to + entry.length) others order.2)
+    search (rules, order_stays, merged_in_order active_size buffer_size (entry.to + entry.length) others order.2)
 
 -- ---- what merged entries make of a scan
 
@@ -159,34 +103,14 @@ byte_at-cons entry entries scan j = elim (cases_Bool (covers entry j)) [ inl own
 -- two joined entries have the bytes of both
 joined_byte : (entry next : Entry) (later : List Entry) (scan : List ℕ) (j : ℕ) → continues entry next ≡ true
     → byte_at (joined entry next ∷ later) scan j ≡ byte_at (entry ∷ next ∷ later) scan j
-joined_byte entry next later scan j goes_on =
-    let at = continues_tells entry next goes_on in
-    elim (cases_Bool (covers entry j)) [
-      | inl own ↦
-          let both : covers (joined entry next) j ≡ true = grind (arith, nat_tests, at) in
-          rw (both, own) refl
-      | inr other ↦
-          elim (cases_Bool (covers next j)) [
-            | inl own ↦
-                let both : covers (joined entry next) j ≡ true = grind (arith, nat_tests, at) in
-                let source : entry.from + (j - entry.to) ≡ next.from + (j - next.to) = grind (arith, nat_tests, at) in
-                rw (both, other, own) (ap (λ i. get_or scan i 0) source)
-            | inr none ↦
-                let neither : covers (joined entry next) j ≡ false = grind (arith, nat_tests, at) in
-                rw (neither, other, none) refl
-          ]
-    ]
+joined_byte entry next later scan j goes_on = search rules
 
 before_byte : (entry : Entry) (others : List Entry) (scan : List ℕ) (j : ℕ) → byte_at (merged_before entry others) scan j ≡ byte_at (entry ∷ others) scan j
-before_byte entry [] scan j = refl
-before_byte entry (next ∷ later) scan j =
-    elim (cases_Bool (continues entry next)) [ inl goes_on ↦ rw goes_on (joined_byte entry next later scan j goes_on) | inr parted ↦ rw parted refl ]
+before_byte entry others scan j = search rules
 
 byte_at-merged : (entries : List Entry) (scan : List ℕ) (j : ℕ) → byte_at (merged entries) scan j ≡ byte_at entries scan j
 byte_at-merged [] scan j = refl
-byte_at-merged (entry ∷ others) scan j =
-    before_byte entry (merged others) scan j ∙ byte_at-cons entry (merged others) scan j
-    ∙ ap (cond (covers entry j) (source_of entry scan j)) (byte_at-merged others scan j) ∙ sym (byte_at-cons entry others scan j)
+byte_at-merged (entry ∷ others) scan j = simp (before_byte, byte_at-cons, byte_at-merged others scan j)
 
 -- merged entries make the same scan
 pub copied-merged : (entries : List Entry) (scan : List ℕ) (size : ℕ) → copied (merged entries) scan size ≡ copied entries scan size

@@ -1,11 +1,11 @@
 -- What the entries of two masks make of a scan: the scan of the same capture under the other mask.
-use Rattle.std.proofs.Common.{◌≡◌, ℕ, ℤ, zero, suc, ◌+◌, ◌-◌, ◌<◌, ◌≤◌, true, false, List, length, get_or, map, filter, sym, ◌∙◌, inl, inr, arith, IsTrue}
+use Rattle.std.proofs.Common.{◌≡◌, ℕ, ℤ, zero, suc, ◌+◌, ◌-◌, ◌<◌, ◌≤◌, true, false, List, length, get_or, map, filter, sym, ◌∙◌, inl, inr, arith, IsTrue, rules}
 use Rattle.std.specs.List.{range_with_len}
 use Rattle.std.proofs.lemmas.Bool.{cases_Bool, cases_eq, false≢true}
 use Rattle.std.proofs.lemmas.List.FromFn.{fill_by_all}
 use Rattle.iio_mask.specs.Mask.{has}
-use Rattle.iio_layout.specs.Shape.{ShapeRecord, count_of, formats_of, width_of}
-use Rattle.iio_layout.specs.Layout.{place_of, scan_size, size_at}
+use Rattle.iio_layout.specs.Shape.{ShapeRecord, count_of, width_of}
+use Rattle.iio_layout.specs.Layout.{scan_size}
 use Rattle.iio_layout.specs.Scan.{scan_of}
 use Rattle.iio_layout.specs.Laws.{length-scan_of, scan_of-at, scan_of-outside}
 use Rattle.iio_demux.specs.Table.{byte_at, channel_entries, channel_entry, copied, covers, source_of, table_of}
@@ -44,12 +44,7 @@ byte_is shape active buffer a (suc n) scan j byte inside outside =
 same_byte : (shape : ShapeRecord) (active buffer c j : ℕ) (values : List ℤ) (t : ℤ) → length values ≡ width_of shape → c < count_of shape
     → has active c ≡ true → has buffer c ≡ true → covers (channel_entry shape active buffer c) j ≡ true
     → get_or (scan_of shape buffer values t) j 0 ≡ source_of (channel_entry shape active buffer c) (scan_of shape active values t) j
-same_byte shape active buffer c j values t wide below selected own covered =
-    let lies = covers_tells (channel_entry shape active buffer c) j covered in
-    let k = j - place_of shape buffer c in
-    let inside : k < size_at (formats_of shape) c = omega (arith, lies) in
-    let at : place_of shape buffer c + k ≡ j = omega (arith, lies) in
-    rw at at (scan_of-at shape buffer values t c k wide below own inside) ∙ sym (scan_of-at shape active values t c k wide below selected inside)
+same_byte shape active buffer c j values t wide below selected own covered = search (rules, covers_tells, scan_of-at)
 
 -- from a capture's scan under the active mask the entries of the buffer's channels make its scan under the buffer's mask
 copied-scan_of : (shape : ShapeRecord) (active buffer : ℕ) (values : List ℤ) (t : ℤ) → ((c : ℕ) → IsTrue (has buffer c) → IsTrue (has active c))
@@ -69,6 +64,4 @@ copied-scan_of shape active buffer values t within wide =
 pub table_scans : (shape : ShapeRecord) (active buffer : ℕ) (values : List ℤ) (t : ℤ) → ((c : ℕ) → IsTrue (has buffer c) → IsTrue (has active c))
     → length values ≡ width_of shape
     → copied (table_of shape active buffer).entries (scan_of shape active values t) (table_of shape active buffer).buffer_size ≡ scan_of shape buffer values t
-table_scans shape active buffer values t within wide =
-    copied-merged (channel_entries shape active buffer (count_of shape)) (scan_of shape active values t) (scan_size shape buffer)
-    ∙ copied-scan_of shape active buffer values t within wide
+table_scans shape active buffer values t within wide = simp (copied-merged, copied-scan_of)

@@ -1,10 +1,10 @@
 -- Copy tables: what a table holds, and the scan that it makes of another. (Kernel, industrialio-buffer.c:
 -- `iio_buffer_update_demux` makes a table, whose neighbours that are contiguous `iio_buffer_add_demux` merges, and
 -- `iio_demux` copies by it. That bytes in no entry are zero is this project's own.)
-use Rattle.std.specs.Prelude.{◌≡◌, ℕ, ◌+◌, ◌-◌, ◌≤◌, ◌&&◌, ◌==◌, nat_le, nat_lt, Bool, false, if◌then◌else◌, List, [], ◌∷◌, map, filter, find, slice_index}
+use Rattle.std.specs.Prelude.{◌≡◌, ℕ, ◌+◌, ◌-◌, ◌≤◌, ◌&&◌, ◌==◌, nat_le, nat_lt, Bool, false, if◌then◌else◌, List, [], ◌∷◌, map, find, slice_index}
 use Rattle.std.specs.List.{range_with_len}
 use Rattle.std.specs.Option.{option_map_or}
-use Rattle.iio_mask.specs.Mask.{has}
+use Rattle.iio_mask.specs.Mask.{has, channels_below}
 use Rattle.iio_layout.specs.Shape.{ShapeRecord, count_of, formats_of}
 use Rattle.iio_layout.specs.Layout.{place_of, scan_size, size_at}
 use Rattle.iio_demux.specs.declared.table.Entry.{Entry}
@@ -16,10 +16,6 @@ pub record CopyTable : Type 0 where
   pub buffer_size : ℕ
 
 -- ---- which entries there are
-
--- the selected channels before channel n, in order
-abbrev pub channels_below : ℕ → ℕ → List ℕ
-channels_below mask n = filter (λ c. has mask c) (range_with_len 0 n)
 
 -- the bytes of channel c: its place under the active mask, its place under the buffer's mask, and its size
 abbrev pub channel_entry : ShapeRecord → (active buffer c : ℕ) → Entry

@@ -52,21 +52,21 @@ module _ {Q : Type 0} where
       by later false e h = later h
 
   -- there are as many groups as masks
-  pub group_count : (taken lost size : Q → ℕ) (shape : ShapeRecord) (active : ℕ) (members : List (Membership Q)) (groups : List GroupRecord)
-      → AreGroups taken lost size shape active members groups
+  pub group_count : (shape : ShapeRecord) (active : ℕ) (members : List (Membership Q)) (groups : List GroupRecord)
+      → AreGroups shape active members groups
       → length groups ≡ mask_count members
-  group_count taken lost size shape active members groups sound =
+  group_count shape active members groups sound =
       sym (length-map groups (λ (g : GroupRecord). g.mask))
       ∙ length-from_keys nat_eq_equiv (map (λ (g : GroupRecord). g.mask) groups) (masks_of members) sound.apart
       (λ q. group_member groups q
       ∙ both_ways (has_group groups q) (is_wanted members q) (has_wanted groups members q sound.used) (wanted_has groups members q sound.there)
       ∙ sym (mask_member members q))
 
-  pub group_few : (taken lost size : Q → ℕ) (shape : ShapeRecord) (active : ℕ) (members : List (Membership Q)) (groups : List GroupRecord)
-      → AreGroups taken lost size shape active members groups
+  pub group_few : (shape : ShapeRecord) (active : ℕ) (members : List (Membership Q)) (groups : List GroupRecord)
+      → AreGroups shape active members groups
       → length members < 2 ^ 32 → length groups < 2 ^ 32
-  group_few taken lost size shape active members groups sound few =
-      let count = group_count taken lost size shape active members groups sound in
+  group_few shape active members groups sound few =
+      let count = group_count shape active members groups sound in
       let least = distinct_count-le (λ (a b : ℕ). a == b) (masks_of members) in
       let all = length-map members mask_of in
       omega (arith, count, least, all, few)

@@ -3,7 +3,7 @@ use Rattle.std.proofs.Common.{◌≡◌, ◌∙◌, ap, subst, All, length, ℕ,
 use Rattle.std.specs.List.{AllZip}
 use Rattle.iio_layout.specs.Scan.{scan_of}
 use Rattle.iio_layout.specs.Shape.{ShapeRecord}
-use Rattle.iio_kfifo.specs.declared.tail.Offered.{Offered}
+use Rattle.iio_kfifo.specs.declared.tail.Tail.{Ghosts}
 use Rattle.iio_sensor.specs.Driver.{Driver, values_of}
 use Rattle.iio_desc.specs.Description.{DeviceRecord}
 use Rattle.iio_desc.specs.declared.description.AttrDesc.{AttrDesc}
@@ -17,10 +17,10 @@ use Rattle.iio_device.specs.declared.membership.Membership.{Membership}
 use Rattle.iio_device.specs.Members.{WasOffered}
 use Rattle.iio_device.specs.Plug.{driver_in}
 
-module _ {Q P : Type 0} (taken lost size capacity : Q → ℕ) (offer_gives : Q → List ℕ → Offered → Q → Type 0) (driver : P → Driver) (shape : ShapeRecord) where
+module _ {Q P : Type 0} (ends : Ghosts Q) (driver : P → Driver) (shape : ShapeRecord) where
   abbrev pub AreOffered : Driver → ℤ → List (Membership Q) → List (Membership Q) → Type 0
   AreOffered d t old new =
-      AllZip (λ (a b : Membership Q). WasOffered taken lost size capacity offer_gives (scan_of shape a.mask.bits (values_of d shape t) t) a b) old new
+      AllZip (λ (a b : Membership Q). WasOffered ends (scan_of shape a.mask.bits (values_of d shape t) t) a b) old new
 
   pub offered_by : (plugged : Option P) (plug : P) (moment t : ℤ) (old new : List (Membership Q)) → plugged ≡ Some plug → moment ≡ t
       → AreOffered (driver plug) moment old new → AreOffered (driver_in driver plugged) t old new

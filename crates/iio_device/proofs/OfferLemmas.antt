@@ -17,7 +17,7 @@ use Rattle.iio_layout.specs.Scan.{scan_of}
 use Rattle.iio_layout.specs.Shape.{ShapeRecord, count_of, width_of}
 use Rattle.iio_demux.specs.Table.{byte_at, copied, table_of}
 use Rattle.iio_demux.proofs.ScanLemmas.{table_scans}
-use Rattle.iio_kfifo.specs.declared.tail.Offered.{Offered}
+use Rattle.iio_kfifo.specs.declared.tail.Tail.{Ghosts}
 use Rattle.iio_device.specs.declared.membership.Membership.{Membership}
 use Rattle.iio_device.specs.Groups.{GroupRecord, IsGroup, has_group, laid_out, scan_for, scan_under}
 use Rattle.iio_device.specs.Active.{active_for}
@@ -140,17 +140,17 @@ module _ {Q : Type 0} (R : Membership Q → Membership Q → Type 0) (same_mask 
   kept_nil (x ∷ xs) (y ∷ ys) zip = refl
 
   -- they are sound with the same groups, if each is sound by itself
-  pub sound_moves : (taken lost size : Q → ℕ) (shape : ShapeRecord) (active : Option Mask) (captures captures' next : ℕ) (old new : List (Membership Q))
+  pub sound_moves : (ends : Ghosts Q) (shape : ShapeRecord) (active : Option Mask) (captures captures' next : ℕ) (old new : List (Membership Q))
       (groups : List GroupRecord)
-      → ((a b : Membership Q) → IsMember taken lost size shape captures next a → R a b → IsMember taken lost size shape captures' next b)
-      → IsSound taken lost size shape active captures next old groups → AllZip R old new → IsSound taken lost size shape active captures' next new groups
-  sound_moves taken lost size shape active captures captures' next old new groups moves sound zip = record {
+      → ((a b : Membership Q) → IsMember ends shape captures next a → R a b → IsMember ends shape captures' next b)
+      → IsSound ends shape active captures next old groups → AllZip R old new → IsSound ends shape active captures' next new groups
+  sound_moves ends shape active captures captures' next old new groups moves sound zip = record {
     below = sound.below;
     ruled = sound.ruled ∙ ap (active_for shape) (sym (kept_masks old new zip));
     asked = sound.asked ∙ sym (kept_nil old new zip);
     few = subst (λ n. n < 2 ^ 32) (length_all_zip R old new zip) sound.few;
     numbers = subst (IsDistinct (λ a b. a == b)) (sym (zip_map R (λ (m : Membership Q). m.number) old new same_number zip)) sound.numbers;
-    each = zip_all R (IsMember taken lost size shape captures next) (IsMember taken lost size shape captures' next) old new moves zip sound.each;
+    each = zip_all R (IsMember ends shape captures next) (IsMember ends shape captures' next) old new moves zip sound.each;
     grouped = record {
       each = sound.grouped.each;
       there = zip_all R (λ (m : Membership Q). has_group groups m.mask.bits ≡ true) (λ (m : Membership Q). has_group groups m.mask.bits ≡ true) old new
@@ -175,11 +175,11 @@ laid_group shape active union g is =
           })
     ]
 
-sound_laid : {Q : Type 0} (taken lost size : Q → ℕ) (shape : ShapeRecord) (active : Option Mask) (captures next : ℕ) (members : List (Membership Q))
+sound_laid : {Q : Type 0} (ends : Ghosts Q) (shape : ShapeRecord) (active : Option Mask) (captures next : ℕ) (members : List (Membership Q))
     (groups : List GroupRecord) (union : List ℕ)
-    → IsSound taken lost size shape active captures next members groups
-    → IsSound taken lost size shape active captures next members (map (laid_out (unwrap_or (bits_of active) 0) union) groups)
-sound_laid {Q = Q} taken lost size shape active captures next members groups union sound =
+    → IsSound ends shape active captures next members groups
+    → IsSound ends shape active captures next members (map (laid_out (unwrap_or (bits_of active) 0) union) groups)
+sound_laid {Q = Q} ends shape active captures next members groups union sound =
     let mask = unwrap_or (bits_of active) 0 in
     record {
       below = sound.below;
@@ -205,16 +205,16 @@ sound_laid {Q = Q} taken lost size shape active captures next members groups uni
 
 -- ---- members that were offered scans
 
-module _ {Q : Type 0} (taken lost size capacity : Q → ℕ) (offer_gives : Q → List ℕ → Offered → Q → Type 0) where
+module _ {Q : Type 0} (ends : Ghosts Q) where
   module _ (scans : ℕ → List ℕ) where
     abbrev Moves : Membership Q → Membership Q → Type 0
-    Moves a b = WasOffered taken lost size capacity offer_gives (scans a.mask.bits) a b
+    Moves a b = WasOffered ends (scans a.mask.bits) a b
 
     offered_mask : (a b : Membership Q) → Moves a b → b.mask.bits ≡ a.mask.bits
     offered_mask a b r = ap (λ (m : Membership Q). m.mask.bits) r.same
 
-    offered_member : (shape : ShapeRecord) (captures next : ℕ) (a b : Membership Q) → IsMember taken lost size shape captures next a → Moves a b
-        → IsMember taken lost size shape (captures + 1) next b
+    offered_member : (shape : ShapeRecord) (captures next : ℕ) (a b : Membership Q) → IsMember ends shape captures next a → Moves a b
+        → IsMember ends shape (captures + 1) next b
     offered_member shape captures next a b is r =
         let number = ap (λ (m : Membership Q). m.number) r.same in
         let mask = offered_mask a b r in
@@ -232,18 +232,18 @@ module _ {Q : Type 0} (taken lost size capacity : Q → ℕ) (offer_gives : Q �
 
     pub sound_captures : (shape : ShapeRecord) (active : Option Mask) (captures next : ℕ) (old new : List (Membership Q)) (groups : List GroupRecord)
         (union : List ℕ)
-        → IsSound taken lost size shape active captures next old groups → AllZip Moves old new
-        → IsSound taken lost size shape active (captures + 1) next new (map (laid_out (unwrap_or (bits_of active) 0) union) groups)
+        → IsSound ends shape active captures next old groups → AllZip Moves old new
+        → IsSound ends shape active (captures + 1) next new (map (laid_out (unwrap_or (bits_of active) 0) union) groups)
     sound_captures shape active captures next old new groups union sound zip =
-        sound_laid taken lost size shape active (captures + 1) next new groups union
-        (sound_moves Moves offered_mask (λ a b r. ap (λ (m : Membership Q). m.number) r.same) taken lost size shape active captures (captures + 1) next old new
+        sound_laid ends shape active (captures + 1) next new groups union
+        (sound_moves Moves offered_mask (λ a b r. ap (λ (m : Membership Q). m.number) r.same) ends shape active captures (captures + 1) next old new
         groups (offered_member shape captures next) sound zip)
 
   -- each scan that is offered has its queue's size, and no count has reached its end
   pub all_sized : (shape : ShapeRecord) (active : Option Mask) (captures next : ℕ) (members : List (Membership Q)) (groups : List GroupRecord) (union : List ℕ)
-      → IsSound taken lost size shape active captures next members groups → length union ≡ scan_size shape (unwrap_or (bits_of active) 0)
+      → IsSound ends shape active captures next members groups → length union ≡ scan_size shape (unwrap_or (bits_of active) 0)
       → All (λ (m : Membership Q). length
-      (scan_for (unwrap_or (bits_of active) 0) union (map (laid_out (unwrap_or (bits_of active) 0) union) groups) m.mask.bits) ≡ size m.tail) members
+      (scan_for (unwrap_or (bits_of active) 0) union (map (laid_out (unwrap_or (bits_of active) 0) union) groups) m.mask.bits) ≡ ends.size m.tail) members
   all_sized shape active captures next members groups union sound sized = λ k d within.
       let m = slice_index_or members k d in
       scan_found-size shape (unwrap_or (bits_of active) 0) m.mask.bits union groups sound.grouped.each (sound.grouped.there k d within) sized
@@ -251,14 +251,14 @@ module _ {Q : Type 0} (taken lost size capacity : Q → ℕ) (offer_gives : Q �
 
   -- each member's mask is within the active one
   pub member_within : (shape : ShapeRecord) (active : Option Mask) (captures next : ℕ) (members : List (Membership Q)) (groups : List GroupRecord)
-      → IsSound taken lost size shape active captures next members groups
+      → IsSound ends shape active captures next members groups
       → (k : ℕ) (d : Membership Q) → k < length members → is_within (slice_index_or members k d).mask.bits (unwrap_or (bits_of active) 0) ≡ true
   member_within shape active captures next [] groups sound k d within = absurd (omega arith)
   member_within shape None captures next (m ∷ ms) groups sound k d within = let asked = sound.asked in absurd (cc)
   member_within shape (Some a) captures next (m ∷ ms) groups sound k d within =
       let mask = (slice_index_or (m ∷ ms) k d).mask.bits in
       within_trans mask (union_of_all (masks_of (m ∷ ms))) a.bits
-      (wanted_within (m ∷ ms) mask (wanted_at taken lost size (m ∷ ms) k d within))
+      (wanted_within (m ∷ ms) mask (wanted_at ends (m ∷ ms) k d within))
       (rule_contains shape (union_of_all (masks_of (m ∷ ms))) a.bits (sym sound.ruled))
 
 -- ---- the room

@@ -10,6 +10,7 @@ use Rattle.iio_mask.proofs.UnionLemmas.{union_of_all-more}
 use Rattle.iio_layout.specs.Active.{active_of, has_data}
 use Rattle.iio_layout.specs.Layout.{scan_size}
 use Rattle.iio_layout.specs.Shape.{ShapeRecord, count_of}
+use Rattle.iio_kfifo.specs.declared.tail.Tail.{Ghosts}
 use Rattle.iio_device.specs.declared.membership.Membership.{Membership}
 use Rattle.iio_device.specs.Groups.{GroupRecord, IsGroup, has_group, remade}
 use Rattle.iio_device.specs.Members.{is_wanted, mask_of, masks_of, without}
@@ -99,7 +100,7 @@ has_own groups q own either there = by (has_group groups q) refl either
     by true e h = refl
     by false e h = let same : q ≡ own = grind (arith, h) in absurd (cc)
 
-module _ {Q : Type 0} (taken lost size : Q → ℕ) where
+module _ {Q : Type 0} (ends : Ghosts Q) where
   module _ (shape : ShapeRecord) (old active : ℕ) (members new : List (Membership Q)) (groups : List GroupRecord) (own : ℕ) where
     abbrev test : GroupRecord → Bool
     test g = is_wanted new g.mask
@@ -110,7 +111,7 @@ module _ {Q : Type 0} (taken lost size : Q → ℕ) where
     abbrev made : List GroupRecord
     made = map (remade shape active) kept
 
-    module _ (sound : AreGroups taken lost size shape old members groups) where
+    module _ (sound : AreGroups shape old members groups) where
       made_each : All (IsGroup shape active) made
       made_each =
           All-map (IsGroup shape active) (remade shape active) kept
@@ -128,7 +129,7 @@ module _ {Q : Type 0} (taken lost size : Q → ℕ) where
       made_has : (q : ℕ) → is_wanted new q ≡ true → has_group groups q ≡ true → has_group made q ≡ true
       made_has q wanted there =
           kept_key (λ (g : GroupRecord). g.mask) (remade shape active) (λ g. refl) kept q
-          ∙ kept_wanted taken lost size (λ mask. is_wanted new mask) groups q wanted there
+          ∙ kept_wanted ends (λ mask. is_wanted new mask) groups q wanted there
 
       made_none : has_group groups own ≡ false → has_group made own ≡ false
       made_none none =
@@ -150,12 +151,12 @@ module _ {Q : Type 0} (taken lost size : Q → ℕ) where
       pub grouped_remasks : (g : Option GroupRecord) → All (λ (m : Membership Q). (has_group groups m.mask.bits || m.mask.bits == own) ≡ true) new
           → is_wanted new own ≡ true
           → IfSome g (λ x. IsGroup shape active x × (x.mask ≡ own) × (has_group groups own ≡ false)) → IfNone g (has_group groups own ≡ true)
-          → AreGroups taken lost size shape active new (with_group g made)
+          → AreGroups shape active new (with_group g made)
       grouped_remasks None either wanted some none = record {
         each = made_each;
         there = λ k d within.
             let q = (slice_index_or new k d).mask.bits in
-            made_has q (wanted_at taken lost size new k d within) (has_own groups q own (either k d within) none);
+            made_has q (wanted_at ends new k d within) (has_own groups q own (either k d within) none);
         used = made_used;
         apart = made_apart;
       }
@@ -163,7 +164,7 @@ module _ {Q : Type 0} (taken lost size : Q → ℕ) where
         each = All-push (IsGroup shape active) made g made_each some.0;
         there = λ k d within.
             let q = (slice_index_or new k d).mask.bits in
-            added_has g q some.1 (wanted_at taken lost size new k d within) (either k d within);
+            added_has g q some.1 (wanted_at ends new k d within) (either k d within);
         used = All-push (λ (x : GroupRecord). is_wanted new x.mask ≡ true) made g made_used (ap (is_wanted new) some.1 ∙ wanted);
         apart = distinct_push (λ (x : GroupRecord). x.mask) made g made_apart (ap (has_group made) some.1 ∙ made_none some.2);
       }
@@ -172,28 +173,28 @@ module _ {Q : Type 0} (taken lost size : Q → ℕ) where
 
   sound_remasks : (shape : ShapeRecord) (old : Option Mask) (active : Mask) (captures next : ℕ) (before : List (Membership Q)) (x y : Membership Q)
       (after : List (Membership Q)) (groups : List GroupRecord) (g : Option GroupRecord)
-      → IsSound taken lost size shape old captures next (before ++ x ∷ after) groups
+      → IsSound ends shape old captures next (before ++ x ∷ after) groups
       → bits_of (Some active) ≡ active_of shape (union_of y.mask.bits (union_of_all (masks_of (before ++ after))))
-      → active.bits < 2 ^ count_of shape → y.number ≡ x.number → IsMember taken lost size shape captures next y
+      → active.bits < 2 ^ count_of shape → y.number ≡ x.number → IsMember ends shape captures next y
       → IfSome g (λ z. IsGroup shape active.bits z × (z.mask ≡ y.mask.bits) × (has_group groups y.mask.bits ≡ false))
       → IfNone g (has_group groups y.mask.bits ≡ true)
-      → IsSound taken lost size shape (Some active) captures next (before ++ y ∷ after)
+      → IsSound ends shape (Some active) captures next (before ++ y ∷ after)
       (with_group g (map (remade shape active.bits) (filter (λ z. is_wanted (before ++ y ∷ after) z.mask) groups)))
   sound_remasks shape old active captures next before x y after groups g sound found low number is some none = record {
     ruled =
         found
         ∙ ap (active_of shape) (sym (union_instead before after y))
-        ∙ sym (asked_of taken lost size shape (masks_of (before ++ y ∷ after))
-        (nil_map taken lost size (before ++ y ∷ after) ∙ nil_other taken lost size before after y));
+        ∙ sym (asked_of ends shape (masks_of (before ++ y ∷ after))
+        (nil_map ends (before ++ y ∷ after) ∙ nil_other before after y));
     below = low;
-    asked = sym (nil_other taken lost size before after y);
+    asked = sym (nil_other before after y);
     few =
         (let few = sound.few in
         let was = length-append before (x ∷ after) in
         let now = length-append before (y ∷ after) in
         omega (arith, few, was, now));
     numbers = subst (IsDistinct (λ a b. a == b)) numbers_same sound.numbers;
-    each = all_instead (IsMember taken lost size shape captures next) before after x y sound.each is;
+    each = all_instead (IsMember ends shape captures next) before after x y sound.each is;
     grouped =
         grouped_remasks shape _ active.bits (before ++ x ∷ after) (before ++ y ∷ after) groups y.mask.bits sound.grouped g either (wanted_in before after y)
         some none;
@@ -216,20 +217,20 @@ module _ {Q : Type 0} (taken lost size : Q → ℕ) where
   -- the member at a place is replaced by another one of its number
   pub sound_remasks_at : (shape : ShapeRecord) (old : Option Mask) (active : Mask) (captures next : ℕ) (members new : List (Membership Q)) (k : ℕ)
       (x y : Membership Q) (groups : List GroupRecord) (g : Option GroupRecord)
-      → IsSound taken lost size shape old captures next members groups → k < length members → x ≡ get_or members k x → new ≡ slice_set members k y
+      → IsSound ends shape old captures next members groups → k < length members → x ≡ get_or members k x → new ≡ slice_set members k y
       → bits_of (Some active) ≡ active_of shape (union_of y.mask.bits (union_of_all (masks_of (without x.number members))))
-      → active.bits < 2 ^ count_of shape → y.number ≡ x.number → IsMember taken lost size shape captures next y
+      → active.bits < 2 ^ count_of shape → y.number ≡ x.number → IsMember ends shape captures next y
       → IfSome g (λ z. IsGroup shape active.bits z × (z.mask ≡ y.mask.bits) × (has_group groups y.mask.bits ≡ false))
       → IfNone g (has_group groups y.mask.bits ≡ true)
-      → IsSound taken lost size shape (Some active) captures next new
+      → IsSound ends shape (Some active) captures next new
       (with_group g (map (remade shape active.bits) (filter (λ z. is_wanted new z.mask) groups)))
   sound_remasks_at shape old active captures next members new k x y groups g sound within at is found low number fits some none =
-      let was = subst (λ ms. IsSound taken lost size shape old captures next ms groups) (split_at members k x within at) sound in
+      let was = subst (λ ms. IsSound ends shape old captures next ms groups) (split_at members k x within at) sound in
       let beside =
       subst (λ ms. bits_of (Some active) ≡ active_of shape (union_of y.mask.bits (union_of_all (masks_of ms))))
       (sym (others_at members k x sound.numbers within at)) found in
       let now : new ≡ take k members ++ y ∷ drop (k + 1) members = is ∙ set_split members k y within in
-      subst (λ ms. IsSound taken lost size shape (Some active) captures next ms
+      subst (λ ms. IsSound ends shape (Some active) captures next ms
       (with_group g (map (remade shape active.bits) (filter (λ z. is_wanted ms z.mask) groups)))) (sym now)
       (sound_remasks shape old active captures next (take k members) x y (drop (k + 1) members) groups g was beside low number fits some none)
 
@@ -240,9 +241,9 @@ at_itself (x ∷ xs) zero d within = refl
 at_itself (x ∷ xs) (suc k) d within = at_itself xs k d (omega arith)
 
 -- the member of a number begins anew, at its place
-module _ {Q : Type 0} (taken lost size : Q → ℕ) (shape : ShapeRecord) (old : Option Mask) (captures next : ℕ) (members new : List (Membership Q)) (k number : ℕ)
+module _ {Q : Type 0} (ends : Ghosts Q) (shape : ShapeRecord) (old : Option Mask) (captures next : ℕ) (members new : List (Membership Q)) (k number : ℕ)
     (mask : Mask) (tail : Q) (groups : List GroupRecord) (d : Membership Q)
-    (sound : IsSound taken lost size shape old captures next members groups) (within : k < length members) (at : (slice_index_or members k d).number ≡ number)
+    (sound : IsSound ends shape old captures next members groups) (within : k < length members) (at : (slice_index_or members k d).number ≡ number)
     (is : new ≡ slice_set members k (begun_anew mask captures tail (slice_index_or members k d))) where
   abbrev was : Membership Q
   was = slice_index_or members k d
@@ -258,17 +259,17 @@ module _ {Q : Type 0} (taken lost size : Q → ℕ) (shape : ShapeRecord) (old :
   -- the groups that are still wanted are within what contains the new union
   pub anew_within : (active : ℕ) → is_within (union_of mask.bits (union_of_all (masks_of (without number members)))) active ≡ true
       → All (λ (g : GroupRecord). is_within g.mask active ≡ true) (filter (λ (g : GroupRecord). is_wanted new g.mask) groups)
-  anew_within active h = kept_within taken lost size new groups active (subst (λ u. is_within u active ≡ true) (sym union_is) h)
+  anew_within active h = kept_within ends new groups active (subst (λ u. is_within u active ≡ true) (sym union_is) h)
 
   pub anew_sound : (active : Mask) (g : Option GroupRecord)
       → bits_of (Some active) ≡ active_of shape (union_of mask.bits (union_of_all (masks_of (without number members))))
-      → active.bits < 2 ^ count_of shape → mask.bits < 2 ^ count_of shape → has_data shape mask.bits ≡ true → size tail ≡ scan_size shape mask.bits
-      → taken tail + lost tail ≡ 0
+      → active.bits < 2 ^ count_of shape → mask.bits < 2 ^ count_of shape → has_data shape mask.bits ≡ true → ends.size tail ≡ scan_size shape mask.bits
+      → ends.taken tail + ends.lost tail ≡ 0
       → IfSome g (λ z. IsGroup shape active.bits z × (z.mask ≡ mask.bits) × (has_group groups mask.bits ≡ false)) → IfNone g (has_group groups mask.bits ≡ true)
-      → IsSound taken lost size shape (Some active) captures next new
+      → IsSound ends shape (Some active) captures next new
       (with_group g (map (remade shape active.bits) (filter (λ (z : GroupRecord). is_wanted new z.mask) groups)))
   anew_sound active g found low own channel sized fresh some none =
-      sound_remasks_at taken lost size shape old active captures next members new k was anew groups g sound within (at_itself members k d within) is
+      sound_remasks_at ends shape old active captures next members new k was anew groups g sound within (at_itself members k d within) is
       (found ∙ ap (λ n. active_of shape (union_of mask.bits (union_of_all (masks_of (without n members))))) (sym at)) low refl
       (record { numbered = (sound.each k d within).numbered; below = own; channel = channel; counted = omega (arith, fresh); sized = sized }) some none
 

@@ -13,6 +13,7 @@ use Rattle.iio_layout.proofs.ActiveLemmas.{active_fewer}
 use Rattle.iio_layout.specs.Active.{active_of, data_part, with_stamp}
 use Rattle.iio_layout.specs.Shape.{ShapeRecord, count_of}
 use Rattle.iio_demux.specs.Table.{CopyTable}
+use Rattle.iio_kfifo.specs.declared.tail.Tail.{Ghosts}
 use Rattle.iio_device.specs.declared.membership.Membership.{Membership}
 use Rattle.iio_device.specs.Groups.{GroupRecord, IsGroup, has_group, remade}
 use Rattle.iio_device.specs.Active.{active_for}
@@ -69,20 +70,29 @@ split_at (y ∷ ys) (suc k) x within at =
     let more : suc k + 1 ≡ suc (k + 1) = omega arith in
     subst (λ n. y ∷ ys ≡ y ∷ take k ys ++ x ∷ drop n (y ∷ ys)) (sym more) (ap (λ zs. y ∷ zs) (split_at ys k x (omega arith) at))
 
-module _ {Q : Type 0} (taken lost size : Q → ℕ) where
-  pub members_below : (shape : ShapeRecord) (captures next : ℕ) (members : List (Membership Q)) → All (IsMember taken lost size shape captures next) members
+pub nil_other : {A : Type 0} (before after : List A) (x : A) → is_nil (before ++ x ∷ after) ≡ false
+nil_other [] after x = refl
+nil_other (y ∷ ys) after x = refl
+
+pub all_without : {A : Type 0} (P : A → Type 0) (before after : List A) (x : A) → All P (before ++ x ∷ after) → All P (before ++ after)
+all_without P [] after x all = All-tail P x after all
+all_without P (y ∷ ys) after x all =
+    All-cons P y (ys ++ after) (All-head P y (ys ++ x ∷ after) all) (all_without P ys after x (All-tail P y (ys ++ x ∷ after) all))
+
+module _ {Q : Type 0} (ends : Ghosts Q) where
+  pub members_below : (shape : ShapeRecord) (captures next : ℕ) (members : List (Membership Q)) → All (IsMember ends shape captures next) members
       → All (λ (m : Membership Q). m.mask.bits < 2 ^ count_of shape) members
   members_below shape captures next members all =
-      All-weaker (IsMember taken lost size shape captures next) (λ (m : Membership Q). m.mask.bits < 2 ^ count_of shape) (λ m is. is.below) members all
+      All-weaker (IsMember ends shape captures next) (λ (m : Membership Q). m.mask.bits < 2 ^ count_of shape) (λ m is. is.below) members all
 
-  pub sound_empty : (shape : ShapeRecord) → IsSound taken lost size shape None 0 0 [] []
+  pub sound_empty : (shape : ShapeRecord) → IsSound ends shape None 0 0 [] []
   sound_empty shape = record {
     ruled = refl;
     below = tt;
     asked = refl;
     few = omega arith;
     numbers = distinct_nil (λ (x : Membership Q). x.number);
-    each = All-nil (IsMember taken lost size shape 0 0);
+    each = All-nil (IsMember ends shape 0 0);
     grouped = record {
       each = All-nil (IsGroup shape 0);
       there = All-nil (λ (m : Membership Q). has_group [] m.mask.bits ≡ true);
@@ -93,7 +103,7 @@ module _ {Q : Type 0} (taken lost size : Q → ℕ) where
 
   -- each group's mask is within what contains the union
   pub groups_within : (shape : ShapeRecord) (old active : ℕ) (members : List (Membership Q)) (groups : List GroupRecord)
-      → AreGroups taken lost size shape old members groups
+      → AreGroups shape old members groups
       → is_within (union_of_all (masks_of members)) active ≡ true → All (λ (g : GroupRecord). is_within g.mask active ≡ true) groups
   groups_within shape old active members groups sound within =
       All-weaker (λ (g : GroupRecord). is_wanted members g.mask ≡ true) (λ (g : GroupRecord). is_within g.mask active ≡ true)
@@ -113,26 +123,26 @@ module _ {Q : Type 0} (taken lost size : Q → ℕ) where
   wanted_at (m ∷ ms) zero d within = let own = eq_same m.mask.bits m.mask.bits refl in rw own refl
   wanted_at (m ∷ ms) (suc k) d within = let later = wanted_at ms k d (omega arith) in rw later (or_true (m.mask.bits == (slice_index_or ms k d).mask.bits))
 
-  later_member : (shape : ShapeRecord) (captures next : ℕ) (m : Membership Q) → IsMember taken lost size shape captures next m
-      → IsMember taken lost size shape captures (next + 1) m
+  later_member : (shape : ShapeRecord) (captures next : ℕ) (m : Membership Q) → IsMember ends shape captures next m
+      → IsMember ends shape captures (next + 1) m
   later_member shape captures next m is =
       let low = is.numbered in record { numbered = omega (arith, low); below = is.below; channel = is.channel; counted = is.counted; sized = is.sized }
 
   -- no member has the next number
-  next_free : (shape : ShapeRecord) (captures next : ℕ) (members : List (Membership Q)) → All (IsMember taken lost size shape captures next) members
+  next_free : (shape : ShapeRecord) (captures next : ℕ) (members : List (Membership Q)) → All (IsMember ends shape captures next) members
       → is_live next members ≡ false
   next_free shape captures next [] all = refl
   next_free shape captures next (m ∷ ms) all =
-      let low = (All-head (IsMember taken lost size shape captures next) m ms all).numbered in
+      let low = (All-head (IsMember ends shape captures next) m ms all).numbered in
       let first : (m.number == next) ≡ false = grind (arith, low) in
-      let rest = next_free shape captures next ms (All-tail (IsMember taken lost size shape captures next) m ms all) in
+      let rest = next_free shape captures next ms (All-tail (IsMember ends shape captures next) m ms all) in
       rw (first, rest) refl
 
   grouped_joins : (shape : ShapeRecord) (old active : ℕ) (members : List (Membership Q)) (groups : List GroupRecord) (m : Membership Q) (g : Option GroupRecord)
-      → AreGroups taken lost size shape old members groups
+      → AreGroups shape old members groups
       → IfSome g (λ x. IsGroup shape active x × (x.mask ≡ m.mask.bits) × (has_group groups m.mask.bits ≡ false))
       → IfNone g (has_group groups m.mask.bits ≡ true)
-      → AreGroups taken lost size shape active (members ++ m ∷ []) (with_group g (map (remade shape active) groups))
+      → AreGroups shape active (members ++ m ∷ []) (with_group g (map (remade shape active) groups))
   grouped_joins shape old active members groups m None sound some none = record {
     each =
         All-map (IsGroup shape active) (remade shape active) groups
@@ -174,12 +184,12 @@ module _ {Q : Type 0} (taken lost size : Q → ℕ) where
 
   pub sound_joins : (shape : ShapeRecord) (old : Option Mask) (active : Mask) (captures next : ℕ) (members : List (Membership Q)) (groups : List GroupRecord)
       (m : Membership Q) (g : Option GroupRecord)
-      → IsSound taken lost size shape old captures next members groups
+      → IsSound ends shape old captures next members groups
       → bits_of (Some active) ≡ active_of shape (union_of m.mask.bits (union_of_all (masks_of members)))
-      → active.bits < 2 ^ count_of shape → length (members ++ m ∷ []) < 2 ^ 32 → m.number ≡ next → IsMember taken lost size shape captures (next + 1) m
+      → active.bits < 2 ^ count_of shape → length (members ++ m ∷ []) < 2 ^ 32 → m.number ≡ next → IsMember ends shape captures (next + 1) m
       → IfSome g (λ x. IsGroup shape active.bits x × (x.mask ≡ m.mask.bits) × (has_group groups m.mask.bits ≡ false))
       → IfNone g (has_group groups m.mask.bits ≡ true)
-      → IsSound taken lost size shape (Some active) captures (next + 1) (members ++ m ∷ []) (with_group g (map (remade shape active.bits) groups))
+      → IsSound ends shape (Some active) captures (next + 1) (members ++ m ∷ []) (with_group g (map (remade shape active.bits) groups))
   sound_joins shape old active captures next members groups m g sound found low few number is some none = record {
     below = low;
     few = few;
@@ -188,22 +198,13 @@ module _ {Q : Type 0} (taken lost size : Q → ℕ) where
         (ap (λ n. is_live n members) number ∙ next_free shape captures next members sound.each);
     ruled = found ∙ sym (active_for-push shape (masks_of members) m.mask.bits) ∙ ap (active_for shape) (sym (map-append mask_of members (m ∷ [])));
     asked = sym (nil_push members m);
-    each = All-push (IsMember taken lost size shape captures (next + 1)) members m
-        (All-weaker (IsMember taken lost size shape captures next) (IsMember taken lost size shape captures (next + 1)) (later_member shape captures next)
+    each = All-push (IsMember ends shape captures (next + 1)) members m
+        (All-weaker (IsMember ends shape captures next) (IsMember ends shape captures (next + 1)) (later_member shape captures next)
         members sound.each) is;
     grouped = grouped_joins shape _ active.bits members groups m g sound.grouped some none;
   }
 
   -- ---- a member leaves
-
-  pub nil_other : {A : Type 0} (before after : List A) (x : A) → is_nil (before ++ x ∷ after) ≡ false
-  nil_other [] after x = refl
-  nil_other (y ∷ ys) after x = refl
-
-  pub all_without : {A : Type 0} (P : A → Type 0) (before after : List A) (x : A) → All P (before ++ x ∷ after) → All P (before ++ after)
-  all_without P [] after x all = All-tail P x after all
-  all_without P (y ∷ ys) after x all =
-      All-cons P y (ys ++ after) (All-head P y (ys ++ x ∷ after) all) (all_without P ys after x (All-tail P y (ys ++ x ∷ after) all))
 
   -- a group that is wanted stays
   pub kept_wanted : (test : ℕ → Bool) (groups : List GroupRecord) (mask : ℕ) → test mask ≡ true → has_group groups mask ≡ true
@@ -221,8 +222,8 @@ module _ {Q : Type 0} (taken lost size : Q → ℕ) where
 
   grouped_leaves : (shape : ShapeRecord) (old : ℕ) (active : Option Mask) (members : List (Membership Q)) (rest : List (Membership Q))
       (groups : List GroupRecord)
-      → AreGroups taken lost size shape old members groups → All (λ (m : Membership Q). has_group groups m.mask.bits ≡ true) rest → is_none active ≡ is_nil rest
-      → AreGroups taken lost size shape (unwrap_or (bits_of active) 0) rest (remade_for shape active (filter (λ g. is_wanted rest g.mask) groups))
+      → AreGroups shape old members groups → All (λ (m : Membership Q). has_group groups m.mask.bits ≡ true) rest → is_none active ≡ is_nil rest
+      → AreGroups shape (unwrap_or (bits_of active) 0) rest (remade_for shape active (filter (λ g. is_wanted rest g.mask) groups))
   grouped_leaves shape old None members [] groups sound there asked = record {
     each = subst (λ gs. All (IsGroup shape 0) gs) (sym (none_left groups)) (All-nil (IsGroup shape 0));
     there = All-nil (λ (m : Membership Q). has_group (filter (λ g. false) groups) m.mask.bits ≡ true);
@@ -251,18 +252,18 @@ module _ {Q : Type 0} (taken lost size : Q → ℕ) where
 
   pub sound_leaves : (shape : ShapeRecord) (old active : Option Mask) (captures next : ℕ) (before : List (Membership Q)) (m : Membership Q)
       (after : List (Membership Q)) (groups : List GroupRecord)
-      → IsSound taken lost size shape old captures next (before ++ m ∷ after) groups
+      → IsSound ends shape old captures next (before ++ m ∷ after) groups
       → bits_of active ≡ active_for shape (masks_of (before ++ after))
       → IfSome active (λ mask. mask.bits < 2 ^ count_of shape) → is_none active ≡ is_nil (before ++ after)
       → AreDistinct (λ (x : Membership Q). x.number) (before ++ after)
-      → IsSound taken lost size shape active captures next (before ++ after) (remade_for shape active (filter (λ g. is_wanted (before ++ after) g.mask) groups))
+      → IsSound ends shape active captures next (before ++ after) (remade_for shape active (filter (λ g. is_wanted (before ++ after) g.mask) groups))
   sound_leaves shape old active captures next before m after groups sound ruled low asked numbers = record {
     numbers = numbers;
     below = low;
     ruled = ruled;
     asked = asked;
     few = few_left;
-    each = all_without (IsMember taken lost size shape captures next) before after m sound.each;
+    each = all_without (IsMember ends shape captures next) before after m sound.each;
     grouped = grouped_leaves shape _ active (before ++ m ∷ after) (before ++ after) groups sound.grouped
         (all_without (λ (x : Membership Q). has_group groups x.mask.bits ≡ true) before after m sound.grouped.there) asked;
   }
@@ -303,7 +304,7 @@ module _ {Q : Type 0} (taken lost size : Q → ℕ) where
 
   pub still_asked : (shape : ShapeRecord) (old active : Option Mask) (captures next : ℕ) (before : List (Membership Q)) (m : Membership Q)
       (after : List (Membership Q)) (groups : List GroupRecord)
-      → IsSound taken lost size shape old captures next (before ++ m ∷ after) groups
+      → IsSound ends shape old captures next (before ++ m ∷ after) groups
       → bits_of active ≡ active_for shape (masks_of (before ++ after)) → is_none active ≡ is_nil (before ++ after)
   still_asked shape old active captures next before m after groups sound ruled = by (before ++ after) refl ruled
     where
@@ -335,14 +336,14 @@ module _ {Q : Type 0} (taken lost size : Q → ℕ) where
 
   pub sound_leaves_at : (shape : ShapeRecord) (old active : Option Mask) (captures next : ℕ) (members rest : List (Membership Q)) (k : ℕ) (m : Membership Q)
       (groups : List GroupRecord)
-      → IsSound taken lost size shape old captures next members groups → k < length members → m ≡ get_or members k m
+      → IsSound ends shape old captures next members groups → k < length members → m ≡ get_or members k m
       → rest ≡ take k members ++ drop (k + 1) members
       → bits_of active ≡ active_for shape (masks_of rest) → IfSome active (λ mask. mask.bits < 2 ^ count_of shape)
-      → IsSound taken lost size shape active captures next rest (remade_for shape active (filter (λ g. is_wanted rest g.mask) groups))
+      → IsSound ends shape active captures next rest (remade_for shape active (filter (λ g. is_wanted rest g.mask) groups))
   sound_leaves_at shape old active captures next members rest k m groups sound within at is ruled low =
-      let was = subst (λ ms. IsSound taken lost size shape old captures next ms groups) (split_at members k m within at) sound in
+      let was = subst (λ ms. IsSound ends shape old captures next ms groups) (split_at members k m within at) sound in
       let now = subst (λ ms. bits_of active ≡ active_for shape (masks_of ms)) is ruled in
-      subst (λ ms. IsSound taken lost size shape active captures next ms (remade_for shape active (filter (λ g. is_wanted ms g.mask) groups))) (sym is)
+      subst (λ ms. IsSound ends shape active captures next ms (remade_for shape active (filter (λ g. is_wanted ms g.mask) groups))) (sym is)
       (sound_leaves shape old active captures next (take k members) m (drop (k + 1) members) groups was now low
       (still_asked shape old active captures next (take k members) m (drop (k + 1) members) groups was now)
       (subst (AreDistinct (λ (x : Membership Q). x.number)) (sym (removed_is (λ (x : Membership Q). x.number) members k m sound.numbers within at))

@@ -7,6 +7,7 @@ use Rattle.iio_layout.specs.Layout.{scan_size}
 use Rattle.iio_layout.specs.Shape.{ShapeRecord, count_of}
 use Rattle.iio_kfifo.specs.Queue.{Queue}
 use Rattle.iio_device.specs.declared.membership.Membership.{Membership}
+use Rattle.iio_device.specs.Ends.{queue_end}
 use Rattle.iio_device.specs.Groups.{GroupRecord}
 use Rattle.iio_device.specs.Members.{Drains, DrainsScans, member_of}
 use Rattle.iio_device.specs.Roster.{ChangesOne}
@@ -76,8 +77,8 @@ keeps_mask : (a b : Membership Queue) → KeepsCounts a b → b.mask.bits ≡ a.
 keeps_mask a b r = ap (λ (m : Membership Queue). m.mask.bits) r.same
 
 keeps_member : (shape : ShapeRecord) (captures next : ℕ) (a b : Membership Queue)
-    → IsMember (λ (q : Queue). q.taken) (λ q. q.lost) (λ q. q.size) shape captures next a → KeepsCounts a b
-    → IsMember (λ (q : Queue). q.taken) (λ q. q.lost) (λ q. q.size) shape captures next b
+    → IsMember queue_end shape captures next a → KeepsCounts a b
+    → IsMember queue_end shape captures next b
 keeps_member shape captures next a b is r =
     let number = ap (λ (m : Membership Queue). m.number) r.same in
     let mask = keeps_mask a b r in
@@ -95,10 +96,10 @@ keeps_member shape captures next a b is r =
 
 pub sound_takes : (shape : ShapeRecord) (active : Option Mask) (captures next : ℕ) (members new : List (Membership Queue)) (groups : List GroupRecord) (k : ℕ)
     (x y : Membership Queue)
-    → IsSound (λ (q : Queue). q.taken) (λ q. q.lost) (λ q. q.size) shape active captures next members groups → k < length members → x ≡ get_or members k x
+    → IsSound queue_end shape active captures next members groups → k < length members → x ≡ get_or members k x
     → KeepsCounts x y → new ≡ slice_set members k y
-    → IsSound (λ (q : Queue). q.taken) (λ q. q.lost) (λ q. q.size) shape active captures next new groups
+    → IsSound queue_end shape active captures next new groups
 sound_takes shape active captures next members new groups k x y sound within at keeps is =
-    sound_moves KeepsCounts keeps_mask (λ a b r. ap (λ (m : Membership Queue). m.number) r.same) (λ (q : Queue). q.taken) (λ q. q.lost) (λ q. q.size) shape
+    sound_moves KeepsCounts keeps_mask (λ a b r. ap (λ (m : Membership Queue). m.number) r.same) queue_end shape
     active captures captures next members new groups (keeps_member shape captures next) sound
     (subst (λ ms. AllZip KeepsCounts members ms) (sym is) (set_zip KeepsCounts keeps_itself members k x y within at keeps))

@@ -10,6 +10,7 @@ use Rattle.iio_mask.proofs.PlaceLemmas.{has-or, has-within}
 use Rattle.iio_mask.proofs.UnionLemmas.{same_from_has, within_first}
 use Rattle.iio_layout.specs.Active.{active_of}
 use Rattle.iio_layout.specs.Shape.{ShapeRecord}
+use Rattle.iio_kfifo.specs.declared.tail.Tail.{Ghosts}
 use Rattle.iio_device.specs.declared.membership.Membership.{Membership}
 use Rattle.iio_device.specs.Groups.{GroupRecord}
 use Rattle.iio_device.specs.Active.{active_for}
@@ -133,8 +134,7 @@ module _ {Q : Type 0} where
       → rest ≡ take k members ++ drop (k + 1) members
       → All P members → All P rest
   all_left P members rest k m within at is all =
-      subst (All P) (sym is) (all_without (λ (q : Q). 0) (λ q. 0) (λ q. 0) P (take k members) (drop (k + 1) members) m
-      (subst (All P) (split_at members k m within at) all))
+      subst (All P) (sym is) (all_without P (take k members) (drop (k + 1) members) m (subst (All P) (split_at members k m within at) all))
 
   -- what is wanted is wanted by those that stay, or is the mask of the one that leaves
   pub wanted_left : (members rest : List (Membership Q)) (k : ℕ) (m : Membership Q) (groups : List GroupRecord) → k < length members → m ≡ get_or members k m
@@ -175,17 +175,17 @@ module _ {Q : Type 0} where
       ∙ ap (λ ms. union_of m.mask.bits (union_of_all (masks_of ms))) (sym is)
       ∙ union_within m.mask.bits (union_of_all (masks_of rest)) (wanted_within rest m.mask.bits shared)
 
-module _ {Q : Type 0} (taken lost size : Q → ℕ) where
+module _ {Q : Type 0} (ends : Ghosts Q) where
   -- the active mask is the one for the union
   pub active_is : (shape : ShapeRecord) (active : Option Mask) (captures next : ℕ) (members : List (Membership Q)) (groups : List GroupRecord)
-      → IsSound taken lost size shape active captures next members groups
+      → IsSound ends shape active captures next members groups
       → is_nil members ≡ false → bits_of active ≡ active_of shape (union_of_all (masks_of members))
   active_is shape active captures next members groups sound some =
-      sound.ruled ∙ asked_of taken lost size shape (masks_of members) (nil_map taken lost size members ∙ some)
+      sound.ruled ∙ asked_of ends shape (masks_of members) (nil_map ends members ∙ some)
 
   -- what serves the union serves a mask within it
   pub active_within : (shape : ShapeRecord) (active : Option Mask) (captures next mask : ℕ) (members : List (Membership Q)) (groups : List GroupRecord)
-      → IsSound taken lost size shape active captures next members groups
+      → IsSound ends shape active captures next members groups
       → union_of mask (union_of_all (masks_of members)) ≡ union_of_all (masks_of members)
       → IfSome active (λ m. (is_within mask m.bits ≡ true) × (is_within (union_of_all (masks_of members)) m.bits ≡ true))
   active_within shape None captures next mask members groups sound same = tt
@@ -199,26 +199,26 @@ module _ {Q : Type 0} (taken lost size : Q → ℕ) where
 
   shared_ruled : (shape : ShapeRecord) (active : Option Mask) (captures next : ℕ) (members rest : List (Membership Q)) (k : ℕ) (m : Membership Q)
       (groups : List GroupRecord)
-      → IsSound taken lost size shape active captures next members groups → k < length members → m ≡ get_or members k m
+      → IsSound ends shape active captures next members groups → k < length members → m ≡ get_or members k m
       → rest ≡ take k members ++ drop (k + 1) members
       → is_wanted rest m.mask.bits ≡ true → bits_of active ≡ active_for shape (masks_of rest)
   shared_ruled shape active captures next members rest k m groups sound within at is shared =
       active_is shape active captures next members groups sound (nil_within members k within)
       ∙ ap (active_of shape) (shared_union members rest k m within at is shared)
-      ∙ sym (asked_of taken lost size shape (masks_of rest) (nil_map taken lost size rest ∙ nil_wanted rest m.mask.bits shared))
+      ∙ sym (asked_of ends shape (masks_of rest) (nil_map ends rest ∙ nil_wanted rest m.mask.bits shared))
 
   -- then nothing else changes
   pub sound_leaves_shared : (shape : ShapeRecord) (active : Option Mask) (captures next : ℕ) (members rest : List (Membership Q)) (k : ℕ) (m : Membership Q)
       (groups : List GroupRecord)
-      → IsSound taken lost size shape active captures next members groups → k < length members → m ≡ get_or members k m
+      → IsSound ends shape active captures next members groups → k < length members → m ≡ get_or members k m
       → rest ≡ take k members ++ drop (k + 1) members
-      → is_wanted rest m.mask.bits ≡ true → (bits_of active ≡ active_for shape (masks_of rest)) × IsSound taken lost size shape active captures next rest groups
+      → is_wanted rest m.mask.bits ≡ true → (bits_of active ≡ active_for shape (masks_of rest)) × IsSound ends shape active captures next rest groups
   sound_leaves_shared shape active captures next members rest k m groups sound within at is shared =
       let ruled = shared_ruled shape active captures next members rest k m groups sound within at is shared in
       let kept : filter (λ (g : GroupRecord). is_wanted rest g.mask) groups ≡ groups =
       shared_is (λ mask. is_wanted rest mask) m.mask.bits groups (wanted_left members rest k m groups within at is sound.grouped.used) shared in (
         ruled,
-        subst (λ gs. IsSound taken lost size shape active captures next rest gs)
+        subst (λ gs. IsSound ends shape active captures next rest gs)
             (ap (remade_for shape active) kept ∙ sym (same_tables_for shape active groups sound.grouped.each))
-            (sound_leaves_at taken lost size shape active active captures next members rest k m groups sound within at is ruled sound.below),
+            (sound_leaves_at ends shape active active captures next members rest k m groups sound within at is ruled sound.below),
       )

@@ -11,12 +11,13 @@ use Rattle.iio_attr.specs.declared.attributes.Attr.{Attr}
 use Rattle.iio_mask.specs.declared.Mask.{Mask}
 use Rattle.iio_layout.specs.Active.{has_data}
 use Rattle.iio_layout.specs.Shape.{ShapeRecord, count_of}
-use Rattle.iio_kfifo.specs.declared.tail.Offered.{Offered}
 use Rattle.iio_kfifo.specs.declared.tail.Tail.{Ghosts}
 use Rattle.iio_trigger.specs.Trigger.{State, Handed, holds_place, with_place, without_place}
 use Rattle.iio_sensor.specs.Driver.{Driver, ask_fails, value_of, values_of}
 use Rattle.iio_desc.specs.Description.{DeviceRecord}
+use Rattle.iio_device.specs.declared.device.Fitted.{Fitted}
 use Rattle.iio_device.specs.declared.iio_dev.IioDev.{IioDev}
+use Rattle.iio_device.specs.declared.plug.Plug.{Plug}
 use Rattle.iio_device.specs.declared.handling.Handled.{Handled}
 use Rattle.iio_device.specs.declared.handling.Handled.TheVariants as handled
 use Rattle.iio_device.specs.declared.handling.RawFault.{RawFault}
@@ -52,13 +53,21 @@ pub record DeviceView (Q : Type 0) : Type 0 where
   pub totals : Totals
   pub site : Site ℕ
 
-module _ {Q P : Type 0} {g : Ghosts Q} (driver : P → Driver) where
-  -- a device's site, from what the core keeps and what is sampled
-  abbrev pub site_of : IioDev Q g → Option P → Site ℕ
-  site_of core plug = site_with (is_some plug) core.trigger core.attachment (driver_in driver plug) core.stored
+module _ {Q X : Type 0} {V : X → Type 0} {g : Ghosts Q} (driver : Plug X V → Driver) where
+  -- a device's site, from what its core keeps and what is sampled
+  abbrev pub site_of : Fitted (IioDev Q g) X V → Site ℕ
+  site_of d = site_with (is_some d.plug) d.core.trigger d.core.attachment (driver_in driver d.plug) d.core.stored
 
-  abbrev pub view_of : IioDev Q g → Option P → DeviceView Q
-  view_of core plug = record { name = core.name; number = core.number; standing = standing_of core.roster; totals = core.totals; site = site_of core plug }
+  -- the view of a device that samples by that driver
+  abbrev pub view_of : Fitted (IioDev Q g) X V → DeviceView Q
+  view_of d =
+      record {
+        name = d.core.name;
+        number = d.core.number;
+        standing = standing_of d.core.roster;
+        totals = d.core.totals;
+        site = site_of d;
+      }
 
 -- ---- conditions of a joining
 
@@ -129,11 +138,11 @@ module _ {Q : Type 0} where
 
   -- the member of that number leaves and gives its queue's end back, and what its queue lost is counted; if there is no such
   -- member, nothing changes
-  abbrev pub LeavesDevice : (lost : Q → ℕ) → ℕ → Option Q → (old new : DeviceView Q) → (trigger trigger' : State) → Type 0
-  LeavesDevice lost number None old new trigger trigger' = (member_of number old.standing.members ≡ None) × (new ≡ old) × (trigger' ≡ trigger)
-  LeavesDevice lost number (Some tail) old new trigger trigger' =
+  abbrev pub LeavesDevice : Ghosts Q → ℕ → Option Q → (old new : DeviceView Q) → (trigger trigger' : State) → Type 0
+  LeavesDevice ends number None old new trigger trigger' = (member_of number old.standing.members ≡ None) × (new ≡ old) × (trigger' ≡ trigger)
+  LeavesDevice ends number (Some tail) old new trigger trigger' =
       (option_map (λ (m : Membership Q). m.tail) (member_of number old.standing.members) ≡ Some tail)
-      × (new ≡ record old { standing = after_leave number old.standing; totals = with_lost (lost tail) old.totals })
+      × (new ≡ record old { standing = after_leave number old.standing; totals = with_lost (ends.lost tail) old.totals })
       × (trigger' ≡ trigger_left new trigger)
 
   -- ---- another mask
@@ -149,12 +158,12 @@ module _ {Q : Type 0} where
 
   -- the member of that number begins anew under another mask, with another queue's end. It gives its old queue's end back, and
   -- what that lost is counted. A refusal gives the new end back and changes nothing
-  abbrev pub RemasksDevice : (lost : Q → ℕ) → ℕ → Mask → Q → Result Q (RemaskRefused Q) → (old new : DeviceView Q) → Type 0
-  RemasksDevice lost number mask tail (Ok before) old new =
+  abbrev pub RemasksDevice : Ghosts Q → ℕ → Mask → Q → Result Q (RemaskRefused Q) → (old new : DeviceView Q) → Type 0
+  RemasksDevice ends number mask tail (Ok before) old new =
       (first_refusal (remask_faults old number mask.bits) ≡ None)
       × (option_map (λ (m : Membership Q). m.tail) (member_of number old.standing.members) ≡ Some before)
-      × (new ≡ record old { standing = after_remask number mask tail old.standing; totals = with_lost (lost before) old.totals })
-  RemasksDevice lost number mask tail (Err refused) old new =
+      × (new ≡ record old { standing = after_remask number mask tail old.standing; totals = with_lost (ends.lost before) old.totals })
+  RemasksDevice ends number mask tail (Err refused) old new =
       IsRemaskRefusal refused.fault (first_refusal (remask_faults old number mask.bits)) × (refused.tail ≡ tail) × (new ≡ old)
 
   -- ---- asking the sensor
@@ -210,14 +219,15 @@ module _ {Q : Type 0} where
   abbrev pub after_trigger : Option ℕ → DeviceView Q → DeviceView Q
   after_trigger trigger d = if is_idle d then at_site (record d.site { trigger = trigger }) d else d
 
-module _ {Q : Type 0} (taken lost size capacity : Q → ℕ) (offer_gives : Q → List ℕ → Offered → Q → Type 0) where
+  -- ---- a trigger's entry
+
   -- the handling of a trigger's entry. If it is due, the sensor is asked exactly once, at the entry's moment and under the
   -- active mask, and each member is offered its own scan of the capture, once. An ask that fails changes only the sensor
-  abbrev pub Handles : Handed → Handled → (old new : DeviceView Q) → Type 0
-  Handles due handled.Idle old new = (is_due due old ≡ false) × (new ≡ old)
-  Handles due handled.Fault old new = (is_due due old ≡ true) × (ask_fails old.site.driver ≡ true) × (new ≡ capture_asked due.t old)
-  Handles due (handled.Captured members) old new =
+  abbrev pub Handles : Ghosts Q → Handed → Handled → (old new : DeviceView Q) → Type 0
+  Handles ends due handled.Idle old new = (is_due due old ≡ false) × (new ≡ old)
+  Handles ends due handled.Fault old new = (is_due due old ≡ true) × (ask_fails old.site.driver ≡ true) × (new ≡ capture_asked due.t old)
+  Handles ends due (handled.Captured members) old new =
       (is_due due old ≡ true)
       × (ask_fails old.site.driver ≡ false)
-      × Captures taken lost size capacity offer_gives (values_of old.site.driver old.standing.shape due.t) due.t (Ok members) old.standing new.standing
+      × Captures ends (values_of old.site.driver old.standing.shape due.t) due.t (Ok members) old.standing new.standing
       × (new ≡ record (capture_asked due.t old) { standing = new.standing })

@@ -1,5 +1,6 @@
 pub mod Active
 pub mod Members
+pub mod Ends
 pub mod Moves
 pub mod Groups
 pub mod Sound

@@ -4,6 +4,7 @@ use Rattle.std.specs.List.{list_any}
 use Rattle.std.specs.Set.{distinct_count}
 use Rattle.iio_mask.specs.declared.Mask.{Mask}
 use Rattle.iio_kfifo.specs.declared.tail.Offered.{Offered}
+use Rattle.iio_kfifo.specs.declared.tail.Tail.{Ghosts}
 use Rattle.iio_kfifo.specs.Queue.{GivesFirst, GivesScans, Queue}
 use Rattle.iio_device.specs.declared.membership.Membership.{Membership}
 
@@ -52,15 +53,14 @@ module _ {Q : Type 0} where
   abbrev pub mask_count : List (Membership Q) → ℕ
   mask_count members = distinct_count (λ a b. a == b) (masks_of members)
 
-  module _ (taken lost size capacity : Q → ℕ) (offer_gives : Q → List ℕ → Offered → Q → Type 0) where
-    -- a member that was offered this scan, once
-    pub record WasOffered (scan : List ℕ) (old new : Membership Q) : Type 0 where
-      pub same : new ≡ record old { tail = new.tail }
-      pub answer : Offered
-      pub offered : offer_gives old.tail scan answer new.tail
-      pub counted : taken new.tail + lost new.tail ≡ taken old.tail + lost old.tail + 1
-      pub sized : size new.tail ≡ size old.tail
-      pub bounded : capacity new.tail ≡ capacity old.tail
+  -- a member that was offered this scan, once; `ends` is what its queue's end tells
+  pub record WasOffered (ends : Ghosts Q) (scan : List ℕ) (old new : Membership Q) : Type 0 where
+    pub same : new ≡ record old { tail = new.tail }
+    pub answer : Offered
+    pub offered : ends.offer_gives old.tail scan answer new.tail
+    pub counted : ends.taken new.tail + ends.lost new.tail ≡ ends.taken old.tail + ends.lost old.tail + 1
+    pub sized : ends.size new.tail ≡ ends.size old.tail
+    pub bounded : ends.capacity new.tail ≡ ends.capacity old.tail
 
 -- the oldest scan of a member's queue is moved out; `given` says whether there was one
 pub record Drains (given : Bool) (out out' : List ℕ) (old new : Membership Queue) : Type 0 where

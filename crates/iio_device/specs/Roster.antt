@@ -9,7 +9,7 @@ use Rattle.iio_layout.specs.Layout.{scan_size}
 use Rattle.iio_layout.specs.Scan.{scan_of}
 use Rattle.iio_layout.specs.Shape.{ShapeRecord}
 use Rattle.iio_kfifo.specs.Queue.{Queue}
-use Rattle.iio_kfifo.specs.declared.tail.Offered.{Offered}
+use Rattle.iio_kfifo.specs.declared.tail.Tail.{Ghosts}
 use Rattle.iio_sensor.specs.declared.sensor.Fault.{Fault}
 use Rattle.iio_device.specs.declared.membership.Membership.{Membership}
 use Rattle.iio_device.specs.declared.roster.JoinFault.{JoinFault}
@@ -83,15 +83,13 @@ module _ {Q : Type 0} where
     pub found : member_of number old ≡ Some member
     pub moved : R member changed
 
-  module _ (taken lost size capacity : Q → ℕ) (offer_gives : Q → List ℕ → Offered → Q → Type 0) where
-    -- each member is offered its own scan of a capture, once, and the capture is counted; if the ask failed, nothing changes
-    abbrev pub Captures : List ℤ → ℤ → Result ℕ Fault → Standing Q → Standing Q → Type 0
-    Captures values moment (Err fault) old new = new ≡ old
-    Captures values moment (Ok count) old new =
-        (count ≡ length old.members)
-        × (new ≡ with_capture new.members old)
-        × AllZip (λ (a b : Membership Q). WasOffered taken lost size capacity offer_gives (scan_of old.shape a.mask.bits values moment) a b) old.members
-        new.members
+  -- each member is offered its own scan of a capture, once, and the capture is counted; if the ask failed, nothing changes
+  abbrev pub Captures : Ghosts Q → List ℤ → ℤ → Result ℕ Fault → Standing Q → Standing Q → Type 0
+  Captures ends values moment (Err fault) old new = new ≡ old
+  Captures ends values moment (Ok count) old new =
+      (count ≡ length old.members)
+      × (new ≡ with_capture new.members old)
+      × AllZip (λ (a b : Membership Q). WasOffered ends (scan_of old.shape a.mask.bits values moment) a b) old.members new.members
 
 -- whether the member of that number has scans of that size
 abbrev pub is_size_of : ℕ → ℕ → Standing Queue → Bool

@@ -6,6 +6,7 @@ use Rattle.iio_scan_type.specs.declared.TheConstants.{MAX_CHANNEL_SIZE}
 use Rattle.iio_layout.specs.Active.{has_data}
 use Rattle.iio_layout.specs.Layout.{scan_size}
 use Rattle.iio_layout.specs.Shape.{ShapeRecord, count_of}
+use Rattle.iio_kfifo.specs.declared.tail.Tail.{Ghosts}
 use Rattle.iio_device.specs.declared.membership.Membership.{Membership}
 use Rattle.iio_device.specs.Active.{active_for}
 use Rattle.iio_device.specs.Members.{is_wanted, masks_of}
@@ -27,22 +28,23 @@ pub record IsSize (shape : ShapeRecord) (active : Option Mask) (size : ℕ) : Ty
 abbrev pub HasRoom : ShapeRecord → List ℕ → Type 0
 HasRoom shape room = MAX_CHANNEL_SIZE * count_of shape ≤ length room
 
-module _ {Q : Type 0} (taken lost size : Q → ℕ) where
+-- each mask of a member has one group, each group has a member, and each table copies from the scan under the active mask
+pub record AreGroups {Q : Type 0} (shape : ShapeRecord) (active : ℕ) (members : List (Membership Q)) (groups : List GroupRecord) : Type 0 where
+  pub each : All (IsGroup shape active) groups
+  pub there : All (λ (m : Membership Q). has_group groups m.mask.bits ≡ true) members
+  pub used : All (λ (g : GroupRecord). is_wanted members g.mask ≡ true) groups
+  pub apart : IsDistinct (λ a b. a == b) (map (λ (g : GroupRecord). g.mask) groups)
+
+-- over any kind of queue's end; `ends` is what such an end tells, the ghost members of `Tail`
+module _ {Q : Type 0} (ends : Ghosts Q) where
   -- a member: its number was given out, its mask is one of the shape and has a data channel, the number of captures since it
   -- joined or last got another mask is that of the scans taken in and lost, and its queue has the scan size of its mask
   pub record IsMember (shape : ShapeRecord) (captures next : ℕ) (m : Membership Q) : Type 0 where
     pub numbered : m.number < next
     pub below : m.mask.bits < 2 ^ count_of shape
     pub channel : has_data shape m.mask.bits ≡ true
-    pub counted : m.joined + (taken m.tail + lost m.tail) ≡ captures
-    pub sized : size m.tail ≡ scan_size shape m.mask.bits
-
-  -- each mask of a member has one group, each group has a member, and each table copies from the scan under the active mask
-  pub record AreGroups (shape : ShapeRecord) (active : ℕ) (members : List (Membership Q)) (groups : List GroupRecord) : Type 0 where
-    pub each : All (IsGroup shape active) groups
-    pub there : All (λ (m : Membership Q). has_group groups m.mask.bits ≡ true) members
-    pub used : All (λ (g : GroupRecord). is_wanted members g.mask ≡ true) groups
-    pub apart : IsDistinct (λ a b. a == b) (map (λ (g : GroupRecord). g.mask) groups)
+    pub counted : m.joined + (ends.taken m.tail + ends.lost m.tail) ≡ captures
+    pub sized : ends.size m.tail ≡ scan_size shape m.mask.bits
 
   pub record IsSound (shape : ShapeRecord) (active : Option Mask) (captures next : ℕ) (members : List (Membership Q)) (groups : List GroupRecord) : Type 0 where
     -- the active mask is the one for the members by the rule, and is one of the shape

@@ -23,7 +23,7 @@ impl<Q: Tail> Fitted<IioDev<Q>> {
     pub fn read_attr(&self, channel: Option<u32>, attr: Attr) -> Value
         requires channel { IfSome channel (λ c. c < length self.now.core.roster.shape.channels) }
         requires plugged { is_some self.now.plug ≡ true }
-        ensures { result ≡ attr_value self.now.core.name channel attr (site_of ⟦<Plug as Sensor>⟧.driver self.now.core self.now.plug) }
+        ensures { result ≡ attr_value self.now.core.name channel attr (site_of ⟦<Plug as Sensor>⟧.driver self.now) }
     {
         match &self.plug {
             None => unreachable!(),
@@ -40,9 +40,9 @@ impl<Q: Tail> Fitted<IioDev<Q>> {
         value: Fixed,
     ) -> Result<(), Errno>
         requires { IfSome channel (λ c. c < length self.old.core.roster.shape.channels) }
-        ensures answer { result ≡ write_answer (view_of ⟦<Plug as Sensor>⟧.driver self.old.core self.old.plug) }
-        ensures state { view_of ⟦<Plug as Sensor>⟧.driver self.new.core self.new.plug
-            ≡ after_write channel attr value (view_of ⟦<Plug as Sensor>⟧.driver self.old.core self.old.plug) }
+        ensures answer { result ≡ write_answer (view_of ⟦<Plug as Sensor>⟧.driver self.old) }
+        ensures state { view_of ⟦<Plug as Sensor>⟧.driver self.new
+            ≡ after_write channel attr value (view_of ⟦<Plug as Sensor>⟧.driver self.old) }
     {
         let Some(plug) = &mut self.plug else {
             return Err(Errno::ENODEV);
@@ -55,9 +55,8 @@ impl<Q: Tail> Fitted<IioDev<Q>> {
     /// and then `EBUSY` if it has a member; there is no other refusal.
     pub fn set_trigger(&mut self, trigger: Option<u32>) -> Result<(), Errno>
         requires { IfSome trigger (λ t. t < MAX_TRIGGERS) }
-        ensures answer { result ≡ trigger_answer (view_of ⟦<Plug as Sensor>⟧.driver self.old.core self.old.plug) }
-        ensures state { view_of ⟦<Plug as Sensor>⟧.driver self.new.core self.new.plug
-            ≡ after_trigger trigger (view_of ⟦<Plug as Sensor>⟧.driver self.old.core self.old.plug) }
+        ensures answer { result ≡ trigger_answer (view_of ⟦<Plug as Sensor>⟧.driver self.old) }
+        ensures state { view_of ⟦<Plug as Sensor>⟧.driver self.new ≡ after_trigger trigger (view_of ⟦<Plug as Sensor>⟧.driver self.old) }
     {
         if self.plug.is_none() {
             return Err(Errno::ENODEV);
@@ -73,9 +72,9 @@ impl<Q: Tail> Fitted<IioDev<Q>> {
     pub fn ev_open(&mut self, who: u32) -> Result<(), Held>
         requires { ⊤ }
         ensures answer { result ≡ open_answer self.old.core.stored.monitor }
-        ensures state { view_of ⟦<Plug as Sensor>⟧.driver self.new.core self.new.plug
-            ≡ at_site (with_monitor (after_open who) (site_of ⟦<Plug as Sensor>⟧.driver self.old.core self.old.plug))
-            (view_of ⟦<Plug as Sensor>⟧.driver self.old.core self.old.plug) }
+        ensures state { view_of ⟦<Plug as Sensor>⟧.driver self.new
+            ≡ at_site (with_monitor (after_open who) (site_of ⟦<Plug as Sensor>⟧.driver self.old))
+            (view_of ⟦<Plug as Sensor>⟧.driver self.old) }
     {
         self.core.stored.monitor.open(who)
     }
@@ -84,9 +83,9 @@ impl<Q: Tail> Fitted<IioDev<Q>> {
     pub fn ev_read(&mut self, who: u32) -> Result<Option<EventData>, NotHolder>
         requires { ⊤ }
         ensures answer { result ≡ read_answer nat_eq who self.old.core.stored.monitor }
-        ensures state { view_of ⟦<Plug as Sensor>⟧.driver self.new.core self.new.plug
-            ≡ at_site (with_monitor (after_read nat_eq who) (site_of ⟦<Plug as Sensor>⟧.driver self.old.core self.old.plug))
-            (view_of ⟦<Plug as Sensor>⟧.driver self.old.core self.old.plug) }
+        ensures state { view_of ⟦<Plug as Sensor>⟧.driver self.new
+            ≡ at_site (with_monitor (after_read nat_eq who) (site_of ⟦<Plug as Sensor>⟧.driver self.old))
+            (view_of ⟦<Plug as Sensor>⟧.driver self.old) }
     {
         self.core.stored.monitor.read(who)
     }
@@ -95,9 +94,9 @@ impl<Q: Tail> Fitted<IioDev<Q>> {
     pub fn ev_close(&mut self, who: u32) -> Result<(), NotHolder>
         requires { ⊤ }
         ensures answer { result ≡ close_answer nat_eq who self.old.core.stored.monitor }
-        ensures state { view_of ⟦<Plug as Sensor>⟧.driver self.new.core self.new.plug
-            ≡ at_site (with_monitor (after_close nat_eq who) (site_of ⟦<Plug as Sensor>⟧.driver self.old.core self.old.plug))
-            (view_of ⟦<Plug as Sensor>⟧.driver self.old.core self.old.plug) }
+        ensures state { view_of ⟦<Plug as Sensor>⟧.driver self.new
+            ≡ at_site (with_monitor (after_close nat_eq who) (site_of ⟦<Plug as Sensor>⟧.driver self.old))
+            (view_of ⟦<Plug as Sensor>⟧.driver self.old) }
     {
         self.core.stored.monitor.close(who)
     }
@@ -106,9 +105,8 @@ impl<Q: Tail> Fitted<IioDev<Q>> {
     pub fn unplug(&mut self) -> bool
         requires { ⊤ }
         ensures answer { result ≡ is_some self.old.plug }
-        ensures state { view_of ⟦<Plug as Sensor>⟧.driver self.new.core self.new.plug
-            ≡ at_site (unplugged (site_of ⟦<Plug as Sensor>⟧.driver self.old.core self.old.plug))
-            (view_of ⟦<Plug as Sensor>⟧.driver self.old.core self.old.plug) }
+        ensures state { view_of ⟦<Plug as Sensor>⟧.driver self.new ≡ at_site (unplugged (site_of ⟦<Plug as Sensor>⟧.driver self.old))
+            (view_of ⟦<Plug as Sensor>⟧.driver self.old) }
     {
         self.plug.take().is_some()
     }

@@ -46,7 +46,7 @@ impl<Q: Tail> Fitted<IioDev<Q>> {
     pub fn new(alloc: Global, desc: DeviceDesc, number: u32, plug: Plug) -> Result<Device<Q>, Mem>
         requires writes { All (IsWrite (length desc.shape.channels)) desc.attrs }
         requires trigger { IfSome desc.trigger (λ t. t < MAX_TRIGGERS) }
-        ensures { IfOk result (λ d. view_of ⟦<Plug as Sensor>⟧.driver d.core d.plug ≡ new_view desc number (⟦<Plug as Sensor>⟧.driver plug)) }
+        ensures { IfOk result (λ d. view_of ⟦<Plug as Sensor>⟧.driver d ≡ new_view desc number (⟦<Plug as Sensor>⟧.driver plug)) }
     {
         let mut plug = plug;
         let stored = first_stored(alloc, &desc.shape, &desc.attrs, &mut plug)?;
@@ -163,11 +163,10 @@ impl Fitted<IioDev<Kfifo>> {
     /// scans.
     pub fn take(&mut self, member: &Member, out: &mut [u8]) -> Option<bool>
         requires { ⊤ }
-        ensures taken { Takes member.now.number result out.old out.new (view_of ⟦<Plug as Sensor>⟧.driver self.old.core self.old.plug).standing
-            (view_of ⟦<Plug as Sensor>⟧.driver self.new.core self.new.plug).standing }
-        ensures rest { view_of ⟦<Plug as Sensor>⟧.driver self.new.core self.new.plug
-            ≡ record (view_of ⟦<Plug as Sensor>⟧.driver self.old.core self.old.plug)
-            { standing = (view_of ⟦<Plug as Sensor>⟧.driver self.new.core self.new.plug).standing; totals = with_taken result out.new self.old.core.totals } }
+        ensures taken { Takes member.now.number result out.old out.new (view_of ⟦<Plug as Sensor>⟧.driver self.old).standing
+            (view_of ⟦<Plug as Sensor>⟧.driver self.new).standing }
+        ensures rest { view_of ⟦<Plug as Sensor>⟧.driver self.new ≡ record (view_of ⟦<Plug as Sensor>⟧.driver self.old)
+            { standing = (view_of ⟦<Plug as Sensor>⟧.driver self.new).standing; totals = with_taken result out.new self.old.core.totals } }
     {
         let taken = self.core.roster.take(member.number, out);
         self.core.totals.count(taken, out);
@@ -178,11 +177,10 @@ impl Fitted<IioDev<Kfifo>> {
     /// to nobody.
     pub fn take_inside(&mut self, member: &Member, out: &mut [u8]) -> Option<bool>
         requires { ⊤ }
-        ensures taken { Takes member.now.number result out.old out.new (view_of ⟦<Plug as Sensor>⟧.driver self.old.core self.old.plug).standing
-            (view_of ⟦<Plug as Sensor>⟧.driver self.new.core self.new.plug).standing }
-        ensures rest { view_of ⟦<Plug as Sensor>⟧.driver self.new.core self.new.plug
-            ≡ record (view_of ⟦<Plug as Sensor>⟧.driver self.old.core self.old.plug)
-            { standing = (view_of ⟦<Plug as Sensor>⟧.driver self.new.core self.new.plug).standing } }
+        ensures taken { Takes member.now.number result out.old out.new (view_of ⟦<Plug as Sensor>⟧.driver self.old).standing
+            (view_of ⟦<Plug as Sensor>⟧.driver self.new).standing }
+        ensures rest { view_of ⟦<Plug as Sensor>⟧.driver self.new ≡ record (view_of ⟦<Plug as Sensor>⟧.driver self.old)
+            { standing = (view_of ⟦<Plug as Sensor>⟧.driver self.new).standing } }
     {
         self.core.roster.take(member.number, out)
     }
@@ -199,13 +197,11 @@ impl Fitted<IioDev<Kfifo>> {
     ) -> Option<u32>
         requires { length out.old.items + most * scan_size self.old.core.roster.shape mask.bits ≤ vec_capacity out.old }
         ensures taken { TakesScans (id_of member.now.number mask) most result out.old.items out.new.items
-            (view_of ⟦<Plug as Sensor>⟧.driver self.old.core self.old.plug).standing (view_of ⟦<Plug as Sensor>⟧.driver self.new.core self.new.plug).standing }
-        ensures rest { view_of ⟦<Plug as Sensor>⟧.driver self.new.core self.new.plug
-            ≡ record (view_of ⟦<Plug as Sensor>⟧.driver self.old.core self.old.plug) {
-              standing = (view_of ⟦<Plug as Sensor>⟧.driver self.new.core self.new.plug).standing;
-              totals =
-                  with_bytes (unwrap_or result 0) (drop (length out.old.items) out.new.items) self.old.core.totals;
-            } }
+            (view_of ⟦<Plug as Sensor>⟧.driver self.old).standing (view_of ⟦<Plug as Sensor>⟧.driver self.new).standing }
+        ensures rest { view_of ⟦<Plug as Sensor>⟧.driver self.new ≡ record (view_of ⟦<Plug as Sensor>⟧.driver self.old) {
+          standing = (view_of ⟦<Plug as Sensor>⟧.driver self.new).standing;
+          totals = with_bytes (unwrap_or result 0) (drop (length out.old.items) out.new.items) self.old.core.totals;
+        } }
         ensures sized { length out.new.items ≡ length out.old.items + unwrap_or result 0 * scan_size self.old.core.roster.shape mask.bits }
         ensures room { vec_capacity out.old ≤ vec_capacity out.new }
     {

@@ -85,8 +85,7 @@ impl<Q: Tail> Fitted<IioDev<Q>> {
     /// changed.
     pub fn handle(&mut self, due: &Due) -> Handled
         requires { ⊤ }
-        ensures { Handles Q.taken Q.lost Q.size Q.capacity Q.offer_gives due.now result (view_of ⟦<Plug as Sensor>⟧.driver self.old.core self.old.plug)
-            (view_of ⟦<Plug as Sensor>⟧.driver self.new.core self.new.plug) }
+        ensures { Handles Q.Tail due.now result (view_of ⟦<Plug as Sensor>⟧.driver self.old) (view_of ⟦<Plug as Sensor>⟧.driver self.new) }
     {
         let Some(plug) = &mut self.plug else {
             return Handled::Idle;
@@ -104,9 +103,8 @@ impl<Q: Tail> Fitted<IioDev<Q>> {
     /// if the device is unplugged (`Gone`) or has a member (`Busy`).
     pub fn raw(&mut self, c: u32, t: i64) -> Result<i64, RawFault>
         requires { c < length self.old.core.roster.shape.channels }
-        ensures answer { result ≡ raw_answer c t (view_of ⟦<Plug as Sensor>⟧.driver self.old.core self.old.plug) }
-        ensures state { view_of ⟦<Plug as Sensor>⟧.driver self.new.core self.new.plug
-            ≡ after_raw (view_of ⟦<Plug as Sensor>⟧.driver self.old.core self.old.plug) }
+        ensures answer { result ≡ raw_answer c t (view_of ⟦<Plug as Sensor>⟧.driver self.old) }
+        ensures state { view_of ⟦<Plug as Sensor>⟧.driver self.new ≡ after_raw (view_of ⟦<Plug as Sensor>⟧.driver self.old) }
     {
         let Some(plug) = &mut self.plug else {
             return Err(RawFault::Gone);
@@ -121,9 +119,8 @@ impl<Q: Tail> Fitted<IioDev<Q>> {
     /// Looks at the thresholds: asks the sensor for each channel that has one enabled, in their order, until an ask fails.
     pub fn sense(&mut self, t: i64) -> Sensed
         requires { ⊤ }
-        ensures answer { result ≡ sense_answer t (view_of ⟦<Plug as Sensor>⟧.driver self.old.core self.old.plug) }
-        ensures state { view_of ⟦<Plug as Sensor>⟧.driver self.new.core self.new.plug
-            ≡ after_sense t (view_of ⟦<Plug as Sensor>⟧.driver self.old.core self.old.plug) }
+        ensures answer { result ≡ sense_answer t (view_of ⟦<Plug as Sensor>⟧.driver self.old) }
+        ensures state { view_of ⟦<Plug as Sensor>⟧.driver self.new ≡ after_sense t (view_of ⟦<Plug as Sensor>⟧.driver self.old) }
     {
         let Some(plug) = &mut self.plug else {
             return Sensed::Gone;

@@ -65,7 +65,7 @@ impl<Q: Tail> Fitted<IioDev<Q>> {
     pub fn may_join(&self, mask: Mask, trigger: Option<&Trigger>) -> Result<(), JoinFault>
         requires { is_some trigger ≡ is_some self.now.core.trigger }
         ensures { result ≡ unless_refused tt
-            (first_refusal (join_faults (view_of ⟦<Plug as Sensor>⟧.driver self.now.core self.now.plug) mask.bits (option_copied trigger.entry))) }
+            (first_refusal (join_faults (view_of ⟦<Plug as Sensor>⟧.driver self.now) mask.bits (option_copied trigger.entry))) }
     {
         if self.plug.is_none() {
             return Err(JoinFault::Gone);
@@ -87,7 +87,7 @@ impl<Q: Tail> Fitted<IioDev<Q>> {
 
     // Whether there is no place for another member.
     fn is_full(&self, trigger: &Trigger) -> bool
-        ensures { result ≡ is_full (view_of ⟦<Plug as Sensor>⟧.driver self.now.core self.now.plug) (Some trigger.now) }
+        ensures { result ≡ is_full (view_of ⟦<Plug as Sensor>⟧.driver self.now) (Some trigger.now) }
     {
         self.core.roster.members.is_empty() && has_no_place(self.core.number, trigger)
             || self.core.roster.next == u64::MAX
@@ -105,8 +105,8 @@ impl<Q: Tail> Fitted<IioDev<Q>> {
         requires trigger { is_some self.old.core.trigger ≡ true }
         requires size { Q.size tail ≡ scan_size self.old.core.roster.shape mask.bits }
         requires fresh { Q.taken tail + Q.lost tail ≡ 0 }
-        ensures { JoinsDevice mask tail result (view_of ⟦<Plug as Sensor>⟧.driver self.old.core self.old.plug)
-            (view_of ⟦<Plug as Sensor>⟧.driver self.new.core self.new.plug) trigger.old trigger.new }
+        ensures { JoinsDevice mask tail result (view_of ⟦<Plug as Sensor>⟧.driver self.old)
+            (view_of ⟦<Plug as Sensor>⟧.driver self.new) trigger.old trigger.new }
     {
         if let Err(fault) = self.may_join(mask, Some(trigger)) {
             return Err(JoinRefused { fault, tail });
@@ -124,8 +124,8 @@ impl<Q: Tail> Fitted<IioDev<Q>> {
     /// nothing, exactly if the member isn't live. When the last member leaves, the device's place at the trigger is freed.
     pub fn leave(&mut self, member: Member, trigger: &mut Trigger) -> Option<Q>
         requires { ⊤ }
-        ensures { LeavesDevice Q.lost member.number result (view_of ⟦<Plug as Sensor>⟧.driver self.old.core self.old.plug)
-            (view_of ⟦<Plug as Sensor>⟧.driver self.new.core self.new.plug) trigger.old trigger.new }
+        ensures { LeavesDevice Q.Tail member.number result (view_of ⟦<Plug as Sensor>⟧.driver self.old)
+            (view_of ⟦<Plug as Sensor>⟧.driver self.new) trigger.old trigger.new }
     {
         let Some(tail) = self.core.roster.leave(member.number) else {
             return None;

@@ -126,7 +126,7 @@ fn offer_one<Q: Tail>(
     requires apart { IsDistinct (λ a b. a == b) (map (λ (g : GroupRecord). g.mask) groups.now) }
     requires sized { length (scan_for active.bits union.now groups.now member.old.mask.bits) ≡ Q.size member.old.tail }
     requires fewer { Q.taken member.old.tail + Q.lost member.old.tail < 2 ^ 64 - 1 }
-    ensures { WasOffered Q.taken Q.lost Q.size Q.capacity Q.offer_gives (scan_for active.bits union.now groups.now member.old.mask.bits) member.old member.new }
+    ensures { WasOffered Q.Tail (scan_for active.bits union.now groups.now member.old.mask.bits) member.old member.new }
 {
     member
         .tail
@@ -146,8 +146,7 @@ pub(crate) fn offer_all<Q: Tail>(
     requires placed { length places.old.items ≡ length members.old.items }
     requires sized { All (λ (m : Membership Q). length (scan_for active.bits union.now groups.now m.mask.bits) ≡ Q.size m.tail) members.old.items }
     requires fewer { All (λ (m : Membership Q). Q.taken m.tail + Q.lost m.tail < 2 ^ 64 - 1) members.old.items }
-    ensures offered { AllZip
-        (λ (a b : Membership Q). WasOffered Q.taken Q.lost Q.size Q.capacity Q.offer_gives (scan_for active.bits union.now groups.now a.mask.bits) a b)
+    ensures offered { AllZip (λ (a b : Membership Q). WasOffered Q.Tail (scan_for active.bits union.now groups.now a.mask.bits) a b)
         members.old.items members.new.items }
     ensures placed { length places.new.items ≡ length places.old.items }
 {

@@ -22,7 +22,7 @@ impl<Q: Tail> Fitted<IioDev<Q>> {
     /// `Mem`.
     pub fn may_remask(&self, member: &Member, mask: Mask) -> Result<(), RemaskFault>
         ensures { result ≡ unless_refused tt
-            (first_refusal (remask_faults (view_of ⟦<Plug as Sensor>⟧.driver self.now.core self.now.plug) member.now.number mask.bits)) }
+            (first_refusal (remask_faults (view_of ⟦<Plug as Sensor>⟧.driver self.now) member.now.number mask.bits)) }
     {
         if self.plug.is_none() {
             return Err(RemaskFault::Gone);
@@ -46,8 +46,8 @@ impl<Q: Tail> Fitted<IioDev<Q>> {
     pub fn remask(&mut self, member: &Member, mask: Mask, tail: Q) -> Result<Q, RemaskRefused<Q>>
         requires size { Q.size tail ≡ scan_size self.old.core.roster.shape mask.bits }
         requires fresh { Q.taken tail + Q.lost tail ≡ 0 }
-        ensures { RemasksDevice Q.lost member.now.number mask tail result (view_of ⟦<Plug as Sensor>⟧.driver self.old.core self.old.plug)
-            (view_of ⟦<Plug as Sensor>⟧.driver self.new.core self.new.plug) }
+        ensures { RemasksDevice Q.Tail member.now.number mask tail result (view_of ⟦<Plug as Sensor>⟧.driver self.old)
+            (view_of ⟦<Plug as Sensor>⟧.driver self.new) }
     {
         if let Err(fault) = self.may_remask(member, mask) {
             return Err(RemaskRefused { fault, tail });

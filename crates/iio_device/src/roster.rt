@@ -51,7 +51,7 @@ pub struct Roster<Q: Tail> {
     // The size in bytes of a scan under the active mask, and room for it.
     size: u32,
     room: Vec<u8>,
-    ghost sound: { IsSound Q.taken Q.lost Q.size shape active captures next members.items groups.items } by { Prim.hlevel props },
+    ghost sound: { IsSound Q.Tail shape active captures next members.items groups.items } by { Prim.hlevel props },
     ghost sized: { IsSize shape active size } by { Prim.hlevel props },
     ghost roomy: { HasRoom shape room.items },
     ghost placed: { length places.items ≡ length members.items },
@@ -478,7 +478,7 @@ impl<Q: Tail> Roster<Q> {
         requires fewer { self.old.captures < 2 ^ 64 - 1 }
         ensures offered { (values : List ℤ) (t : ℤ) → length values ≡ width_of self.old.shape
             → take size self.old.room.items ≡ scan_of self.old.shape (unwrap_or (bits_of self.old.active) 0) values t
-            → AllZip (λ (a b : Membership Q). WasOffered Q.taken Q.lost Q.size Q.capacity Q.offer_gives (scan_of self.old.shape a.mask.bits values t) a b)
+            → AllZip (λ (a b : Membership Q). WasOffered Q.Tail (scan_of self.old.shape a.mask.bits values t) a b)
             self.old.members.items self.new.members.items }
         ensures rest { standing_of self.new ≡ with_capture self.new.members.items (standing_of self.old) }
     {
@@ -502,7 +502,7 @@ impl<Q: Tail> Roster<Q> {
         ensures asked { P.driver plug.new ≡ after_capture (P.driver plug.old) t (unwrap_or (bits_of self.old.active) 0) }
         ensures fault { is_err result ≡ ask_fails (P.driver plug.old) }
         ensures few { IfOk result (λ count. count < 2 ^ 32) }
-        ensures captures { Captures Q.taken Q.lost Q.size Q.capacity Q.offer_gives (values_of (P.driver plug.old) self.old.shape t) t result
+        ensures captures { Captures Q.Tail (values_of (P.driver plug.old) self.old.shape t) t result
             (standing_of self.old) (standing_of self.new) }
     {
         let active = self.asked();

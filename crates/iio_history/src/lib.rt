@@ -67,7 +67,7 @@ pub fn move_law()
 /// What an unplugging, a look at thresholds and the handling of an entry make of a device's own view is what the history
 /// makes of the device, for any ends of its members' queues.
 pub fn told_device_law<Q: Tail>()
-    ensures ends { EndsAgree Q.lost Q.capacity }
-    ensures looks { ToldLooksAgree Q.lost Q.capacity }
-    ensures handlings { ToldHandlingsAgree Q.taken Q.lost Q.size Q.capacity Q.offer_gives }
+    ensures ends { EndsAgree Q.Tail }
+    ensures looks { ToldLooksAgree Q.Tail }
+    ensures handlings { ToldHandlingsAgree Q.Tail }
 {}

@@ -17,6 +17,7 @@ use Rattle.iio_kfifo.specs.Queue.{Queue}
 use Rattle.iio_trigger.specs.Trigger.{State}
 use Rattle.iio_derive.specs.Window.{full_mask}
 use Rattle.iio_device.specs.declared.membership.Membership.{Membership}
+use Rattle.iio_device.specs.Ends.{queue_end}
 use Rattle.iio_device.specs.Active.{is_without_union}
 use Rattle.iio_device.specs.Sound.{IsMember}
 use Rattle.iio_text.specs.declared.errors.Errno.{Errno}
@@ -189,12 +190,12 @@ module _ (shape shape' : ShapeRecord) (inners : List Inner) (room : List ℕ) (m
 
 -- no inner member has the number of the next member
 pub next_free : (shape : ShapeRecord) (captures next : ℕ) (inners : List Inner) (room : List ℕ) (ms : List (Membership Queue))
-    → All (IsMember (λ (q : Queue). q.taken) (λ q. q.lost) (λ q. q.size) shape captures next) ms
+    → All (IsMember queue_end shape captures next) ms
     → HasInners shape ms inners room → inner_at inners next ≡ None
 next_free shape captures next inners room ms each sound =
     next_none next (map member_of ms) inners
-    (below_told next ms (all_so (IsMember (λ (q : Queue). q.taken) (λ q. q.lost) (λ q. q.size) shape captures next) (λ (m : Membership Queue). m.number < next)
-    ms (λ m h. h.numbered) (recursion_from_All (IsMember (λ (q : Queue). q.taken) (λ q. q.lost) (λ q. q.size) shape captures next) ms each)))
+    (below_told next ms (all_so (IsMember queue_end shape captures next) (λ (m : Membership Queue). m.number < next)
+    ms (λ m h. h.numbered) (recursion_from_All (IsMember queue_end shape captures next) ms each)))
     (there_told ms inners sound.there)
 
 -- ---- an inner member joins
@@ -276,11 +277,11 @@ module _ (shape shape' : ShapeRecord) (inners : List Inner) (room room' : List �
 
 -- the numbers of the members of a device are below the next
 pub told_below : (shape : ShapeRecord) (captures next : ℕ) (ms : List (Membership Queue))
-    → All (IsMember (λ (q : Queue). q.taken) (λ q. q.lost) (λ q. q.size) shape captures next) ms
+    → All (IsMember queue_end shape captures next) ms
     → AllByRecursion (λ (x : Member). x.number < next) (map member_of ms)
 told_below shape captures next ms each =
-    below_told next ms (all_so (IsMember (λ (q : Queue). q.taken) (λ q. q.lost) (λ q. q.size) shape captures next) (λ (m : Membership Queue). m.number < next)
-    ms (λ m h. h.numbered) (recursion_from_All (IsMember (λ (q : Queue). q.taken) (λ q. q.lost) (λ q. q.size) shape captures next) ms each))
+    below_told next ms (all_so (IsMember queue_end shape captures next) (λ (m : Membership Queue). m.number < next)
+    ms (λ m h. h.numbered) (recursion_from_All (IsMember queue_end shape captures next) ms each))
 
 -- an inner member's joining, as it is told
 module _ (mask : Mask) (j number : ℕ) (shape : ShapeRecord) (inners : List Inner) where
@@ -307,12 +308,12 @@ masks_below n (m ∷ ms) all = or_lt n m.mask.bits (union_of_all (masks_of (map 
 
 -- no member's mask adds to the mask of all channels
 pub served_alone : (shape : ShapeRecord) (captures next : ℕ) (inners : List Inner) (ms : List (Membership Queue)) (mask : ℕ)
-    → All (IsMember (λ (q : Queue). q.taken) (λ q. q.lost) (λ q. q.size) shape captures next) ms → mask ≡ full_mask shape
+    → All (IsMember queue_end shape captures next) ms → mask ≡ full_mask shape
     → is_without_union shape (masks_of (map (with_inner_name inners) (map member_of ms))) mask ≡ is_without_union shape [] mask
 served_alone shape captures next inners ms mask each whole =
     let below = masks_below (count_of shape) ms
-    (all_so (IsMember (λ (q : Queue). q.taken) (λ q. q.lost) (λ q. q.size) shape captures next) (λ (m : Membership Queue). m.mask.bits < 2 ^ count_of shape) ms
-    (λ m h. h.below) (recursion_from_All (IsMember (λ (q : Queue). q.taken) (λ q. q.lost) (λ q. q.size) shape captures next) ms each)) in
+    (all_so (IsMember queue_end shape captures next) (λ (m : Membership Queue). m.mask.bits < 2 ^ count_of shape) ms
+    (λ m h. h.below) (recursion_from_All (IsMember queue_end shape captures next) ms each)) in
     let beside : bit_or mask (union_of_all (masks_of (map member_of ms))) ≡ mask = search (rules, ones_full) in
     ap (λ (masks : List ℕ). is_without_union shape masks mask) (masks_named inners (map member_of ms))
     ∙ ap (λ (n : ℕ). is_none (active_of shape n)) (beside ∙ sym (or_zero_r mask))

@@ -13,6 +13,7 @@ use Rattle.iio_trigger.specs.Trigger.{State}
 use Rattle.iio_device.specs.declared.membership.Membership.{Membership}
 use Rattle.iio_device.specs.declared.roster.JoinFault.{JoinFault}
 use Rattle.iio_device.specs.declared.roster.JoinFault.TheVariants as fault
+use Rattle.iio_device.specs.Ends.{queue_end}
 use Rattle.iio_device.specs.Active.{is_without_union}
 use Rattle.iio_device.specs.Device.{DeviceView, has_no_place as has_no_place_for, is_bad_mask, is_full as is_full_view, join_faults}
 use Rattle.iio_device.specs.Joining.{member_faults}
@@ -33,7 +34,7 @@ use Rattle.iio_kinds.proofs.EmptyLemmas.{is_empty-map}
 -- ---- the same refusals
 
 masks_are : (ms : List (Membership Queue)) → masks_of (map member_of ms) ≡ masks_of_memberships ms
-masks_are ms = plain_masks (λ (q : Queue). q.lost) (λ q. q.capacity) queue_waits ms
+masks_are ms = plain_masks queue_end queue_waits ms
 
 -- a mask within the shape that has a data channel
 pub good_mask : (shape : ShapeRecord) (mask : ℕ) → mask < 2 ^ count_of shape → has_data shape mask ≡ true → is_bad_mask shape mask ≡ false

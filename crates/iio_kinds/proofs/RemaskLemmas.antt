@@ -10,6 +10,7 @@ use Rattle.iio_kfifo.specs.Queue.{Queue}
 use Rattle.iio_device.specs.declared.membership.Membership.{Membership}
 use Rattle.iio_device.specs.declared.roster.RemaskFault.{RemaskFault}
 use Rattle.iio_device.specs.declared.roster.RemaskFault.TheVariants as fault
+use Rattle.iio_device.specs.Ends.{queue_end}
 use Rattle.iio_device.specs.Device.{DeviceView, RemasksDevice, is_bad_mask, remask_faults}
 use Rattle.iio_device.specs.Members.{member_of as membership_of}
 use Rattle.iiod_commands.specs.declared.iio.No.{No}
@@ -25,12 +26,6 @@ use Rattle.iio_kinds.specs.Remasking.{remask_answer}
 use Rattle.iio_kinds.specs.Station.{member_of, station_of}
 use Rattle.iio_kinds.proofs.StandingLemmas.{standing}
 use Rattle.iio_kinds.proofs.CallLemmas.{IsUnder, told_absent}
-
-abbrev lost_of : Queue → ℕ
-lost_of q = q.lost
-
-abbrev bound_of : Queue → ℕ
-bound_of q = q.capacity
 
 -- ---- refusals
 
@@ -60,7 +55,7 @@ module _ (id : MemberId) (mask : Mask) (scans : ℕ) (v v' : DeviceView Queue) w
 
   pub refusals : (r : Option RemaskFault) → is_bad_mask v.standing.shape mask.bits ≡ false → Knows → first_refusal (remask_faults v id.number mask.bits) ≡ r
       → first_refusal (remask_refusals v.standing.shape (station_of v) id mask.bits) ≡ option_and_then remask_errno r
-  refusals r good knows e = refusals_are lost_of bound_of queue_waits id mask.bits v r good knows e
+  refusals r good knows e = refusals_are queue_end queue_waits id mask.bits v r good knows e
 
   pub faulty : (f : RemaskFault) (said : No) → is_bad_mask v.standing.shape mask.bits ≡ false → Knows
       → Err f ≡ unless_refused (tt {0}) (first_refusal (remask_faults v id.number mask.bits)) → said ≡ remask_no f → v' ≡ v
@@ -79,14 +74,14 @@ module _ (id : MemberId) (mask : Mask) (scans : ℕ) (v v' : DeviceView Queue) w
   -- the exchange is made
   pub done : (tail before : Queue) (n : ℕ) → is_bad_mask v.standing.shape mask.bits ≡ false → Knows → tail.scans ≡ [] → tail.lost ≡ 0 → tail.capacity ≡ scans
       → n ≡ length before.scans
-      → RemasksDevice lost_of id.number mask tail (Ok before) v v'
+      → RemasksDevice queue_end id.number mask tail (Ok before) v v'
       → Acts (station_after_remask id.number mask.bits scans) answer (Ok n) (station_of v) (station_of v')
   done tail before n good knows none unlost bounded is j =
       let passed : answer ≡ Ok (length (scans_in id (station_of v).members))
       = ap (λ (o : Option Errno). unless_refused (length (scans_in id (station_of v).members)) o) (refusals None good knows j.0) in
-      let waited : scans_in id (station_of v).members ≡ before.scans = waited_is lost_of bound_of queue_waits id before v.standing.members knows j.1 in
+      let waited : scans_in id (station_of v).members ≡ before.scans = waited_is queue_end queue_waits id before v.standing.members knows j.1 in
       let after : station_after_remask id.number mask.bits tail.capacity (station_of v) ≡ station_of v'
-      = remasked_is lost_of bound_of queue_waits id mask tail before v v' j (record { none = none; unlost = unlost }) in
+      = remasked_is queue_end queue_waits id mask tail before v v' j (record { none = none; unlost = unlost }) in
       rw passed (
         ap (λ (q : List (List ℕ)). (let r : Result ℕ Errno = Ok (length q) in r)) waited ∙ ap (λ (k : ℕ). (let r : Result ℕ Errno = Ok k in r)) (sym is),
         sym after ∙ ap (λ (k : ℕ). station_after_remask id.number mask.bits k (station_of v)) bounded,

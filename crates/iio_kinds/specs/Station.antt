@@ -9,6 +9,7 @@ use Rattle.iio_device.specs.declared.device.Fitted.{Fitted}
 use Rattle.iio_device.specs.declared.iio_dev.IioDev.{IioDev}
 use Rattle.iio_device.specs.declared.membership.Membership.{Membership}
 use Rattle.iio_device.specs.declared.plug.Plug.{Plug}
+use Rattle.iio_device.specs.Ends.{queue_end}
 use Rattle.iio_device.specs.Device.{DeviceView, view_of}
 use Rattle.iio_core.specs.Machine.{Member, Station}
 use Rattle.iio_core.specs.Devices.{member_of as plain_member, queue_waits, station_of as plain_station}
@@ -21,18 +22,14 @@ use Rattle.iio_kinds.specs.OutStation.{out_head, out_station}
 
 -- a member of an input device, and the device itself
 abbrev pub member_of : Membership Queue → Member
-member_of m = plain_member (λ (q : Queue). q.lost) (λ q. q.capacity) queue_waits m
+member_of m = plain_member queue_end queue_waits m
 
 abbrev pub station_of : DeviceView Queue → Station
-station_of d = plain_station (λ (q : Queue). q.lost) (λ q. q.capacity) queue_waits d
+station_of d = plain_station queue_end queue_waits d
 
 module _ {X : Type 0} {V : X → Type 0} {g : Ghosts Queue} (driver : Plug X V → Driver) where
-  -- the view of a device that samples by that driver
-  abbrev pub view_by : Fitted (IioDev Queue g) X V → DeviceView Queue
-  view_by d = view_of driver d.core d.plug
-
   abbrev pub station_by : Fitted (IioDev Queue g) X V → Station
-  station_by d = station_of (view_by d)
+  station_by d = station_of (view_of driver d)
 
 -- what no call changes
 abbrev pub head_by : {g : Ghosts Queue} → IioDev Queue g → DeviceHead

@@ -9,13 +9,14 @@ ghost use Rattle.iio_desc.specs.declared.limits.TheConstants.{MAX_TRIGGERS};
 ghost use Rattle.iio_event.specs.Monitor.{after_close, after_open, after_read};
 ghost use Rattle.iio_layout.specs.Layout.{scan_size};
 ghost use Rattle.iio_device.specs.Site.{Site, site_written, with_monitor};
+ghost use Rattle.iio_device.specs.Device.{view_of};
 ghost use Rattle.iiod_commands.specs.declared.iio.No.TheVariants.{Mem};
 ghost use Rattle.iio_core.specs.Calls.{ev_open_answer, ev_read_answer, holds_events, trigger_answer};
 ghost use Rattle.iio_core.specs.Machine.{scans_in, with_site};
 ghost use Rattle.iio_kinds.specs.Acting.{Acts, Keeps, KeepsCaptures, ReadsInput, TakesAt, TakesScansAt, has_member, id_of, lost_in, nothing_at};
 ghost use Rattle.iio_kinds.specs.Handling.{counted, entry_station, is_last, entry_became};
 ghost use Rattle.iio_core.specs.declared.became.Became.TheVariants.{Asked};
-ghost use Rattle.iio_kinds.specs.Station.{station_by, view_by};
+ghost use Rattle.iio_kinds.specs.Station.{station_by};
 
 use iio_attr::{Attr, Value};
 use iio_device::{Device, Handled, Member, Plug};
@@ -35,8 +36,8 @@ pub(crate) fn read_attr(
     attr: Attr,
 ) -> Result<Value, No>
     requires { IfSome channel (λ c. c < length device.old.core.roster.shape.channels) }
-    ensures reads { ReadsInput t channel attr (view_by ⟦<Plug as Sensor>⟧.driver device.old) result (station_by ⟦<Plug as Sensor>⟧.driver device.new) }
-    ensures keeps { KeepsCaptures (view_by ⟦<Plug as Sensor>⟧.driver device.old) (view_by ⟦<Plug as Sensor>⟧.driver device.new) }
+    ensures reads { ReadsInput t channel attr (view_of ⟦<Plug as Sensor>⟧.driver device.old) result (station_by ⟦<Plug as Sensor>⟧.driver device.new) }
+    ensures keeps { KeepsCaptures (view_of ⟦<Plug as Sensor>⟧.driver device.old) (view_of ⟦<Plug as Sensor>⟧.driver device.new) }
 {
     match channel {
         None => read_kept(device, t, None, attr),
@@ -47,8 +48,8 @@ pub(crate) fn read_attr(
 // The value of an attribute of channel `c`.
 fn read_channel(device: &mut Device<Kfifo>, t: i64, c: u32, attr: Attr) -> Result<Value, No>
     requires { c < length device.old.core.roster.shape.channels }
-    ensures reads { ReadsInput t (Some c) attr (view_by ⟦<Plug as Sensor>⟧.driver device.old) result (station_by ⟦<Plug as Sensor>⟧.driver device.new) }
-    ensures keeps { KeepsCaptures (view_by ⟦<Plug as Sensor>⟧.driver device.old) (view_by ⟦<Plug as Sensor>⟧.driver device.new) }
+    ensures reads { ReadsInput t (Some c) attr (view_of ⟦<Plug as Sensor>⟧.driver device.old) result (station_by ⟦<Plug as Sensor>⟧.driver device.new) }
+    ensures keeps { KeepsCaptures (view_of ⟦<Plug as Sensor>⟧.driver device.old) (view_of ⟦<Plug as Sensor>⟧.driver device.new) }
 {
     match attr {
         Attr::Raw => read_raw(device, t, c),
@@ -59,8 +60,8 @@ fn read_channel(device: &mut Device<Kfifo>, t: i64, c: u32, attr: Attr) -> Resul
 // A sample of channel `c`.
 fn read_raw(device: &mut Device<Kfifo>, t: i64, c: u32) -> Result<Value, No>
     requires { c < length device.old.core.roster.shape.channels }
-    ensures reads { ReadsInput t (Some c) Raw (view_by ⟦<Plug as Sensor>⟧.driver device.old) result (station_by ⟦<Plug as Sensor>⟧.driver device.new) }
-    ensures keeps { KeepsCaptures (view_by ⟦<Plug as Sensor>⟧.driver device.old) (view_by ⟦<Plug as Sensor>⟧.driver device.new) }
+    ensures reads { ReadsInput t (Some c) Raw (view_of ⟦<Plug as Sensor>⟧.driver device.old) result (station_by ⟦<Plug as Sensor>⟧.driver device.new) }
+    ensures keeps { KeepsCaptures (view_of ⟦<Plug as Sensor>⟧.driver device.old) (view_of ⟦<Plug as Sensor>⟧.driver device.new) }
 {
     match device.raw(c, t) {
         Ok(value) => Ok(Value::Int(value)),
@@ -72,7 +73,7 @@ fn read_raw(device: &mut Device<Kfifo>, t: i64, c: u32) -> Result<Value, No>
 fn read_kept(device: &Device<Kfifo>, _t: i64, channel: Option<u32>, attr: Attr) -> Result<Value, No>
     requires channel { IfSome channel (λ c. c < length device.now.core.roster.shape.channels) }
     requires kept { IfSome channel (λ c. attr ≢ Raw) }
-    ensures { ReadsInput _t channel attr (view_by ⟦<Plug as Sensor>⟧.driver device.now) result (station_by ⟦<Plug as Sensor>⟧.driver device.now) }
+    ensures { ReadsInput _t channel attr (view_of ⟦<Plug as Sensor>⟧.driver device.now) result (station_by ⟦<Plug as Sensor>⟧.driver device.now) }
 {
     if !device.plugged() {
         return Err(No::Errno(Errno::ENODEV));
@@ -90,7 +91,7 @@ pub(crate) fn write_attr(
     requires { IfSome channel (λ c. c < length device.old.core.roster.shape.channels) }
     ensures acts { Acts (with_site (site_written channel attr value)) (ensure (station_by ⟦<Plug as Sensor>⟧.driver device.old).site.plugged ENODEV)
         result (station_by ⟦<Plug as Sensor>⟧.driver device.old) (station_by ⟦<Plug as Sensor>⟧.driver device.new) }
-    ensures keeps { KeepsCaptures (view_by ⟦<Plug as Sensor>⟧.driver device.old) (view_by ⟦<Plug as Sensor>⟧.driver device.new) }
+    ensures keeps { KeepsCaptures (view_of ⟦<Plug as Sensor>⟧.driver device.old) (view_of ⟦<Plug as Sensor>⟧.driver device.new) }
 {
     match device.write_attr(channel, attr, value) {
         Ok(()) => Ok(()),
@@ -103,7 +104,7 @@ pub(crate) fn set_trigger(device: &mut Device<Kfifo>, trigger: Option<u32>) -> R
     requires { IfSome trigger (λ t. t < MAX_TRIGGERS) }
     ensures acts { Acts (with_site (λ site. record site { trigger = trigger })) (trigger_answer (station_by ⟦<Plug as Sensor>⟧.driver device.old))
         result (station_by ⟦<Plug as Sensor>⟧.driver device.old) (station_by ⟦<Plug as Sensor>⟧.driver device.new) }
-    ensures keeps { KeepsCaptures (view_by ⟦<Plug as Sensor>⟧.driver device.old) (view_by ⟦<Plug as Sensor>⟧.driver device.new) }
+    ensures keeps { KeepsCaptures (view_of ⟦<Plug as Sensor>⟧.driver device.old) (view_of ⟦<Plug as Sensor>⟧.driver device.new) }
 {
     match device.set_trigger(trigger) {
         Ok(()) => Ok(()),
@@ -116,7 +117,7 @@ pub(crate) fn ev_open(device: &mut Device<Kfifo>, who: u32) -> Result<(), No>
     requires { ⊤ }
     ensures acts { Acts (with_site (with_monitor (after_open who))) (ev_open_answer (station_by ⟦<Plug as Sensor>⟧.driver device.old))
         result (station_by ⟦<Plug as Sensor>⟧.driver device.old) (station_by ⟦<Plug as Sensor>⟧.driver device.new) }
-    ensures keeps { KeepsCaptures (view_by ⟦<Plug as Sensor>⟧.driver device.old) (view_by ⟦<Plug as Sensor>⟧.driver device.new) }
+    ensures keeps { KeepsCaptures (view_of ⟦<Plug as Sensor>⟧.driver device.old) (view_of ⟦<Plug as Sensor>⟧.driver device.new) }
 {
     if !device.plugged() {
         return Err(No::Errno(Errno::ENODEV));
@@ -132,7 +133,7 @@ pub(crate) fn ev_read(device: &mut Device<Kfifo>, who: u32) -> Result<Option<Eve
     requires { ⊤ }
     ensures acts { Acts (with_site (with_monitor (after_read (λ a b. a == b) who))) (ev_read_answer who (station_by ⟦<Plug as Sensor>⟧.driver device.old))
         result (station_by ⟦<Plug as Sensor>⟧.driver device.old) (station_by ⟦<Plug as Sensor>⟧.driver device.new) }
-    ensures keeps { KeepsCaptures (view_by ⟦<Plug as Sensor>⟧.driver device.old) (view_by ⟦<Plug as Sensor>⟧.driver device.new) }
+    ensures keeps { KeepsCaptures (view_of ⟦<Plug as Sensor>⟧.driver device.old) (view_of ⟦<Plug as Sensor>⟧.driver device.new) }
 {
     if !device.plugged() {
         return Err(No::Errno(Errno::ENODEV));
@@ -150,7 +151,7 @@ pub(crate) fn ev_close(device: &mut Device<Kfifo>, who: u32) -> Result<(), No>
     ensures acts { Acts (with_site (with_monitor (after_close (λ a b. a == b) who)))
         (ensure (holds_events who (station_by ⟦<Plug as Sensor>⟧.driver device.old)) EBADF)
         result (station_by ⟦<Plug as Sensor>⟧.driver device.old) (station_by ⟦<Plug as Sensor>⟧.driver device.new) }
-    ensures keeps { KeepsCaptures (view_by ⟦<Plug as Sensor>⟧.driver device.old) (view_by ⟦<Plug as Sensor>⟧.driver device.new) }
+    ensures keeps { KeepsCaptures (view_of ⟦<Plug as Sensor>⟧.driver device.old) (view_of ⟦<Plug as Sensor>⟧.driver device.new) }
 {
     match device.ev_close(who) {
         Ok(()) => Ok(()),
@@ -163,7 +164,7 @@ pub(crate) fn take(device: &mut Device<Kfifo>, number: u64, mask: Mask, out: &mu
     requires { length out.old ≡ scan_size device.old.core.roster.shape mask.bits }
     ensures takes { TakesAt (id_of number mask) result out.new (station_by ⟦<Plug as Sensor>⟧.driver device.old)
         (station_by ⟦<Plug as Sensor>⟧.driver device.new) }
-    ensures keeps { KeepsCaptures (view_by ⟦<Plug as Sensor>⟧.driver device.old) (view_by ⟦<Plug as Sensor>⟧.driver device.new) }
+    ensures keeps { KeepsCaptures (view_of ⟦<Plug as Sensor>⟧.driver device.old) (view_of ⟦<Plug as Sensor>⟧.driver device.new) }
 {
     if device.is_live_under(&Member { number }, mask) {
         take_from(device, number, mask, out)
@@ -178,7 +179,7 @@ fn take_from(device: &mut Device<Kfifo>, number: u64, _mask: Mask, out: &mut [u8
     requires size { length out.old ≡ scan_size device.old.core.roster.shape _mask.bits }
     ensures takes { TakesAt (id_of number _mask) result out.new (station_by ⟦<Plug as Sensor>⟧.driver device.old)
         (station_by ⟦<Plug as Sensor>⟧.driver device.new) }
-    ensures keeps { KeepsCaptures (view_by ⟦<Plug as Sensor>⟧.driver device.old) (view_by ⟦<Plug as Sensor>⟧.driver device.new) }
+    ensures keeps { KeepsCaptures (view_of ⟦<Plug as Sensor>⟧.driver device.old) (view_of ⟦<Plug as Sensor>⟧.driver device.new) }
 {
     match device.take(&Member { number }, out) {
         None => nothing(device),
@@ -199,7 +200,7 @@ pub(crate) fn take_scans(
     requires room { length out.old.items + most * scan_size device.old.core.roster.shape mask.bits ≤ vec_capacity out.old }
     ensures takes { TakesScansAt (id_of number mask) most result out.old.items out.new.items (station_by ⟦<Plug as Sensor>⟧.driver device.old)
         (station_by ⟦<Plug as Sensor>⟧.driver device.new) }
-    ensures keeps { KeepsCaptures (view_by ⟦<Plug as Sensor>⟧.driver device.old) (view_by ⟦<Plug as Sensor>⟧.driver device.new) }
+    ensures keeps { KeepsCaptures (view_of ⟦<Plug as Sensor>⟧.driver device.old) (view_of ⟦<Plug as Sensor>⟧.driver device.new) }
     ensures most { length out.new.items ≤ length out.old.items + most * scan_size device.old.core.roster.shape mask.bits }
     ensures room { vec_capacity out.old ≤ vec_capacity out.new }
 {
@@ -249,7 +250,7 @@ pub(crate) fn handle_due(device: &mut Device<Kfifo>, due: &Due) -> Handled
         ≡ entry_station Input (Some due.now) (is_last device.old.core.roster.captures) device.old.core.roster.shape
         (station_by ⟦<Plug as Sensor>⟧.driver device.old) }
     ensures captures { device.new.core.roster.captures ≡ counted (Some (Asked result)) device.old.core.roster.captures }
-    ensures keeps { Keeps (view_by ⟦<Plug as Sensor>⟧.driver device.old) (view_by ⟦<Plug as Sensor>⟧.driver device.new) }
+    ensures keeps { Keeps (view_of ⟦<Plug as Sensor>⟧.driver device.old) (view_of ⟦<Plug as Sensor>⟧.driver device.new) }
 {
     device.handle(due)
 }

@@ -12,7 +12,7 @@ ghost use Rattle.iio_scan_type.specs.Format.{IsInProfile};
 ghost use Rattle.iio_layout.specs.Active.{has_data};
 ghost use Rattle.iio_layout.specs.Layout.{scan_size};
 ghost use Rattle.iio_layout.specs.Shape.{count_of};
-ghost use Rattle.iio_device.specs.Device.{has_no_place};
+ghost use Rattle.iio_device.specs.Device.{has_no_place, view_of};
 ghost use Rattle.iio_device.specs.Site.{site_written, with_monitor, unplugged};
 ghost use Rattle.iiod_commands.specs.declared.iio.No.TheVariants.{Mem};
 ghost use Rattle.iio_core.specs.Calls.{ev_open_answer, ev_read_answer, holds_events, inner_gone, is_inner_of, station_after_leave, station_after_remask, trigger_answer};
@@ -26,7 +26,7 @@ ghost use Rattle.iio_kinds.specs.Inner.{AreApart, AreThere, AreWhole, HasRoom, i
 ghost use Rattle.iio_kinds.specs.Taking.{IsTakenOf, all_taken};
 ghost use Rattle.iio_kinds.specs.Places.{is_hosted, place_left};
 ghost use Rattle.iio_kinds.specs.Remasking.{remask_answer};
-ghost use Rattle.iio_kinds.specs.Station.{KeepsIn, KeepsInCaptures, in_head, in_station, station_by, view_by};
+ghost use Rattle.iio_kinds.specs.Station.{KeepsIn, KeepsInCaptures, in_head, in_station, station_by};
 
 use crate::calls;
 use crate::in_device::{InDevice, Inner};
@@ -94,7 +94,7 @@ fn take_all(device: &mut Device<Kfifo>, inners: &[Inner], room: &mut [u8])
     ensures station { station_by ⟦<Plug as Sensor>⟧.driver device.new ≡ all_taken inners.now (station_by ⟦<Plug as Sensor>⟧.driver device.old) }
     ensures taken { IsTakenOf inners.now (station_by ⟦<Plug as Sensor>⟧.driver device.old).members room.new }
     ensures same { length room.new ≡ length room.old }
-    ensures keeps { KeepsCaptures (view_by ⟦<Plug as Sensor>⟧.driver device.old) (view_by ⟦<Plug as Sensor>⟧.driver device.new) }
+    ensures keeps { KeepsCaptures (view_of ⟦<Plug as Sensor>⟧.driver device.old) (view_of ⟦<Plug as Sensor>⟧.driver device.new) }
 {
     for inner in inners {
         let _taken = device.take_inside(

@@ -7,11 +7,11 @@ ghost use Rattle.iio_layout.specs.Layout.{scan_size};
 ghost use Rattle.iio_layout.specs.Shape.{count_of};
 ghost use Rattle.iio_kfifo.specs.declared.limits.TheConstants.{MAX_BYTES};
 ghost use Rattle.iio_desc.specs.Kind.{Input};
-ghost use Rattle.iio_device.specs.Device.{has_no_place, join_faults};
+ghost use Rattle.iio_device.specs.Device.{has_no_place, join_faults, view_of};
 ghost use Rattle.iio_kinds.specs.Acting.{KeepsCaptures};
 ghost use Rattle.iio_kinds.specs.Faults.{Hosts, HostsAny, JoinsAny, JoinsBy, any_refusals, joining_of};
 ghost use Rattle.iio_kinds.specs.Places.{is_hosted};
-ghost use Rattle.iio_kinds.specs.Station.{station_by, view_by};
+ghost use Rattle.iio_kinds.specs.Station.{station_by};
 
 use crate::seat::Seat;
 use iio_device::{Device, JoinFault, JoinRefused, Plug};
@@ -32,7 +32,7 @@ fn host_at(
 ) -> Result<usize, JoinFault>
     requires own { device.now.core.trigger ≡ Some trigger }
     requires within { trigger < length triggers.now }
-    ensures { Hosts triggers.now (view_by ⟦<Plug as Sensor>⟧.driver device.now) mask.bits result }
+    ensures { Hosts triggers.now (view_of ⟦<Plug as Sensor>⟧.driver device.now) mask.bits result }
 {
     match device.may_join(mask, Some(&triggers[trigger])) {
         Err(fault) => Err(fault),
@@ -43,7 +43,7 @@ fn host_at(
 // Returns the number of the device's trigger if a member of that mask may join by it.
 fn host(device: &Device<Kfifo>, triggers: &[Trigger], mask: Mask) -> Result<usize, JoinFault>
     requires { is_hosted (length triggers.now) (station_by ⟦<Plug as Sensor>⟧.driver device.now) ≡ true }
-    ensures { Hosts triggers.now (view_by ⟦<Plug as Sensor>⟧.driver device.now) mask.bits result }
+    ensures { Hosts triggers.now (view_of ⟦<Plug as Sensor>⟧.driver device.now) mask.bits result }
 {
     let Some(number) = device.trigger() else {
         device.may_join(mask, None)?;
@@ -61,13 +61,13 @@ fn join(
     capacity: u32,
 ) -> Result<Seat, No>
     requires trigger { is_some device.old.core.trigger ≡ true }
-    requires may { first_refusal (join_faults (view_by ⟦<Plug as Sensor>⟧.driver device.old) mask.bits (Some trigger.old)) ≡ None }
+    requires may { first_refusal (join_faults (view_of ⟦<Plug as Sensor>⟧.driver device.old) mask.bits (Some trigger.old)) ≡ None }
     requires below { mask.bits < 2 ^ count_of device.old.core.roster.shape }
     requires channel { has_data device.old.core.roster.shape mask.bits ≡ true }
     requires some { 1 ≤ capacity }
     requires bytes { capacity * scan_size device.old.core.roster.shape mask.bits ≤ MAX_BYTES }
-    ensures { JoinsBy mask capacity result (view_by ⟦<Plug as Sensor>⟧.driver device.old)
-        (view_by ⟦<Plug as Sensor>⟧.driver device.new) trigger.old trigger.new }
+    ensures { JoinsBy mask capacity result (view_of ⟦<Plug as Sensor>⟧.driver device.old)
+        (view_of ⟦<Plug as Sensor>⟧.driver device.new) trigger.old trigger.new }
 {
     let size = scan_size(device.shape(), mask);
     let Ok(tail) = Kfifo::new(alloc, capacity, size) else {
@@ -120,7 +120,7 @@ pub(crate) fn join_input(
     requires bytes { capacity * scan_size device.old.core.roster.shape mask.bits ≤ MAX_BYTES }
     ensures joins { JoinsAny (joining_of device.old.core.number device.old.core.roster.shape mask capacity false None) result
         (station_by ⟦<Plug as Sensor>⟧.driver device.old) (station_by ⟦<Plug as Sensor>⟧.driver device.new) trigger.old trigger.new }
-    ensures keeps { KeepsCaptures (view_by ⟦<Plug as Sensor>⟧.driver device.old) (view_by ⟦<Plug as Sensor>⟧.driver device.new) }
+    ensures keeps { KeepsCaptures (view_of ⟦<Plug as Sensor>⟧.driver device.old) (view_of ⟦<Plug as Sensor>⟧.driver device.new) }
 {
     join(alloc, device, trigger, mask, capacity)
 }

@@ -5,10 +5,11 @@ ghost use Rattle.iio_kfifo.specs.declared.limits.TheConstants.{MAX_BYTES};
 ghost use Rattle.iio_layout.specs.Active.{has_data};
 ghost use Rattle.iio_layout.specs.Layout.{scan_size};
 ghost use Rattle.iio_layout.specs.Shape.{count_of};
+ghost use Rattle.iio_device.specs.Device.{view_of};
 ghost use Rattle.iio_core.specs.Calls.{station_after_remask};
 ghost use Rattle.iio_kinds.specs.Acting.{Acts, KeepsCaptures, has_member, id_of};
 ghost use Rattle.iio_kinds.specs.Remasking.{remask_answer};
-ghost use Rattle.iio_kinds.specs.Station.{station_by, view_by};
+ghost use Rattle.iio_kinds.specs.Station.{station_by};
 
 use crate::seat::Seat;
 use iio_device::{Device, Member, Plug, RemaskRefused};
@@ -38,7 +39,7 @@ fn exchange(
     ensures acts { Acts (station_after_remask seat.now.number mask.bits seat.now.capacity)
         (remask_answer device.old.core.roster.shape (station_by ⟦<Plug as Sensor>⟧.driver device.old) (id_of seat.now.number seat.now.mask) mask.bits)
         result (station_by ⟦<Plug as Sensor>⟧.driver device.old) (station_by ⟦<Plug as Sensor>⟧.driver device.new) }
-    ensures keeps { KeepsCaptures (view_by ⟦<Plug as Sensor>⟧.driver device.old) (view_by ⟦<Plug as Sensor>⟧.driver device.new) }
+    ensures keeps { KeepsCaptures (view_of ⟦<Plug as Sensor>⟧.driver device.old) (view_of ⟦<Plug as Sensor>⟧.driver device.new) }
 {
     let member = Member {
         number: seat.number,
@@ -73,7 +74,7 @@ pub(crate) fn remask(
     ensures acts { Acts (station_after_remask seat.now.number mask.bits seat.now.capacity)
         (remask_answer device.old.core.roster.shape (station_by ⟦<Plug as Sensor>⟧.driver device.old) (id_of seat.now.number seat.now.mask) mask.bits)
         result (station_by ⟦<Plug as Sensor>⟧.driver device.old) (station_by ⟦<Plug as Sensor>⟧.driver device.new) }
-    ensures keeps { KeepsCaptures (view_by ⟦<Plug as Sensor>⟧.driver device.old) (view_by ⟦<Plug as Sensor>⟧.driver device.new) }
+    ensures keeps { KeepsCaptures (view_of ⟦<Plug as Sensor>⟧.driver device.old) (view_of ⟦<Plug as Sensor>⟧.driver device.new) }
 {
     if !device.plugged() {
         return Err(No::Errno(Errno::ENODEV));

@@ -1,14 +1,15 @@
 -- The active mask has all that is wanted, and no channel that isn't there; if there is one, there is one for fewer channels.
-use Rattle.std.proofs.Common.{◌≡◌, ◌≢◌, ℕ, zero, suc, nat_lt, ◌*◌, ◌%◌, ◌^◌, ◌<◌, ◌≤◌, ◌==◌, ◌&&◌, ◌||◌, not, Bool, true, false, cond, List, [], ◌∷◌, length, Option, Some, None, is_some, refl, sym, ap, ◌∙◌, inl, inr, arith}
+use Rattle.std.proofs.Common.{◌≡◌, ◌≢◌, ℕ, zero, suc, nat_lt, ◌*◌, ◌%◌, ◌^◌, ◌<◌, ◌≤◌, ◌==◌, ◌&&◌, ◌||◌, not, Bool, true, false, cond, List, [], ◌∷◌, length, Option, Some, is_some, refl, sym, ◌∙◌, inl, inr, arith, rules}
+use Rattle.std.proofs.lemmas.Grind.{common_steps}
 use Rattle.std.specs.Prelude.{find, option_map, All, IsSome}
 use Rattle.std.proofs.Math.Nat.{mod-le}
 use Rattle.std.proofs.Math.Pow.{pow_mono, pow-lt}
 use Rattle.std.specs.Int.{trailing_zeros, w64}
-use Rattle.std.proofs.lemmas.Bool.{cases_Bool, cases_eq, cases_lt, ne_eqb}
+use Rattle.std.proofs.lemmas.Bool.{cases_lt, ne_eqb}
 use Rattle.std.proofs.lemmas.Bool.Decides.{nat_tests}
 use Rattle.std.proofs.lemmas.Nat.Bits.{bit_at-pow_same, bit_at-trailing_zeros, bit_at-zero}
 use Rattle.iio_scan_type.specs.declared.Endian.{Endian}
-use Rattle.iio_mask.specs.Mask.{has, is_within, matching_mask, union_of, without_channel}
+use Rattle.iio_mask.specs.Mask.{has, is_within, matching_mask, without_channel}
 use Rattle.iio_mask.proofs.PlaceLemmas.{has-or, has-within, has-without, is_within-from}
 use Rattle.iio_layout.specs.Shape.{ShapeRecord, count_of, stamp_formats}
 use Rattle.iio_layout.specs.Laws.{count_is, has_below_at}
@@ -19,8 +20,7 @@ use Rattle.iio_layout.specs.Active.{active_of, data_part, has_below, with_stamp}
 -- the first of several that passes a test passes it
 passes_by : (b : Bool) (test : ℕ → Bool) (x m : ℕ) (rest : Option ℕ) → test x ≡ b → cond b (Some x) rest ≡ Some m → (rest ≡ Some m → test m ≡ true)
     → test m ≡ true
-passes_by true test x m rest is h next = let same : x ≡ m = cc in ap test (sym same) ∙ is
-passes_by false test x m rest is h next = next h
+passes_by b test x m rest is h next = search rules
 
 found_passes : (test : ℕ → Bool) (xs : List ℕ) (m : ℕ) → find test xs ≡ Some m → test m ≡ true
 found_passes test [] m h = cc
@@ -30,13 +30,11 @@ self_within : (a : ℕ) → is_within a a ≡ true
 self_within a = is_within-from a a (λ c there. there)
 
 pub matching_mask_contains : (listed : List ℕ) (wanted m : ℕ) → matching_mask listed wanted ≡ Some m → is_within wanted m ≡ true
-matching_mask_contains [] wanted m h = let same : wanted ≡ m = cc in ap (is_within wanted) (sym same) ∙ self_within wanted
-matching_mask_contains (x ∷ xs) wanted m h = found_passes (λ bits. is_within wanted bits) (x ∷ xs) m h
+matching_mask_contains listed wanted m h = search (rules, self_within, found_passes)
 
 -- what is found is one of the listed masks, or what was wanted
 below_by : (b : Bool) (x m n : ℕ) (rest : Option ℕ) → x < n → cond b (Some x) rest ≡ Some m → (rest ≡ Some m → m < n) → m < n
-below_by true x m n rest small h next = let same : x ≡ m = cc in omega (arith, same)
-below_by false x m n rest small h next = next h
+below_by b x m n rest small h next = search rules
 
 found_below : (test : ℕ → Bool) (xs : List ℕ) (m n : ℕ) → All (λ x. x < n) xs → find test xs ≡ Some m → m < n
 found_below test [] m n all h = cc
@@ -50,13 +48,11 @@ matching_mask_below (x ∷ xs) wanted m n all below h = found_below (λ bits. is
 -- if a mask passes a test, a mask passes a weaker test
 found_by : (b : Bool) (test : ℕ → Bool) (x m : ℕ) (rest weaker : Option ℕ) → (b ≡ true → test x ≡ true) → cond b (Some x) rest ≡ Some m
     → (rest ≡ Some m → IsSome weaker) → IsSome (cond (test x) (Some x) weaker)
-found_by true test x m rest weaker passes h next = rw (passes refl) refl
-found_by false test x m rest weaker passes h next = elim (cases_Bool (test x)) [ inl there ↦ rw there refl | inr other ↦ rw other (next h) ]
+found_by b test x m rest weaker passes h next = search rules
 
 found_weaker : (strong test : ℕ → Bool) (xs : List ℕ) (m : ℕ) → ((x : ℕ) → strong x ≡ true → test x ≡ true) → find strong xs ≡ Some m → IsSome (find test xs)
 found_weaker strong test [] m weaker h = cc
-found_weaker strong test (x ∷ xs) m weaker h =
-    found_by (strong x) test x m (find strong xs) (find test xs) (weaker x) h (found_weaker strong test xs m weaker)
+found_weaker strong test (x ∷ xs) m weaker h = search (rules, found_by, found_weaker strong test xs m weaker)
 
 within_trans : (a b c : ℕ) → is_within a b ≡ true → is_within b c ≡ true → is_within a c ≡ true
 within_trans a b c first second = is_within-from a c (λ k there. has-within b c second k (has-within a b first k there))
@@ -64,15 +60,13 @@ within_trans a b c first second = is_within-from a c (λ k there. has-within b c
 matching_mask_fewer : (listed : List ℕ) (less wanted m : ℕ) → is_within less wanted ≡ true → matching_mask listed wanted ≡ Some m
     → IsSome (matching_mask listed less)
 matching_mask_fewer [] less wanted m within h = refl
-matching_mask_fewer (x ∷ xs) less wanted m within h =
-    found_weaker (λ bits. is_within wanted bits) (λ bits. is_within less bits) (x ∷ xs) m (λ bits passes. within_trans less wanted bits within passes) h
+matching_mask_fewer (x ∷ xs) less wanted m within h = search (rules, found_weaker, within_trans)
 
 -- ---- the timestamp's bit
 
 -- fewer channels have fewer data channels
 and_weaker : (p q r : Bool) → (p ≡ true → q ≡ true) → (p && r) ≡ true → (q && r) ≡ true
-and_weaker true q r weaker h = rw (weaker refl) h
-and_weaker false q r weaker h = cc
+and_weaker p q r weaker h = search rules
 
 data_part-within : (shape : ShapeRecord) (less wanted : ℕ) → is_within less wanted ≡ true → is_within (data_part shape less) (data_part shape wanted) ≡ true
 data_part-within shape less wanted within = by_stamp (is_some shape.stamp)
@@ -82,28 +76,22 @@ data_part-within shape less wanted within = by_stamp (is_some shape.stamp)
 
     by_stamp : (b : Bool) → is_within (cond b (without_channel less n) less) (cond b (without_channel wanted n) wanted) ≡ true
     by_stamp false = within
-    by_stamp true = is_within-from (without_channel less n) (without_channel wanted n) (λ c there.
-        has-without wanted n c
-        ∙ and_weaker (has less c) (has wanted c) (not (c == n)) (has-within less wanted within c) (sym (has-without less n c) ∙ there))
+    by_stamp true = search (rules, is_within-from, has-without, and_weaker, has-within)
 
 is_some-map : {A B : Type 0} (f : A → B) (o : Option A) → IsSome o → IsSome (option_map f o)
-is_some-map f None h = h
-is_some-map f (Some x) h = refl
+is_some-map f o h = search rules
 
 -- if there is an active mask, there is one for fewer channels
 pub active_fewer : (shape : ShapeRecord) (less wanted m : ℕ) → is_within less wanted ≡ true → matching_mask shape.listed (data_part shape wanted) ≡ Some m
     → IsSome (active_of shape less)
-active_fewer shape less wanted m within found =
-    is_some-map (with_stamp shape less) (matching_mask shape.listed (data_part shape less))
-    (matching_mask_fewer shape.listed (data_part shape less) (data_part shape wanted) m (data_part-within shape less wanted within) found)
+active_fewer shape less wanted m within found = search (rules, is_some-map, matching_mask_fewer, data_part-within)
 
 -- a bit that two masks have, or the first has not
 has-pow : (n : ℕ) → has (2 ^ n) n ≡ true
 has-pow n = rw (bit_at-pow_same n) refl
 
 or_true : (b : Bool) → (b || true) ≡ true
-or_true true = refl
-or_true false = refl
+or_true b = search rules
 
 other_channel : (b : Bool) (c n : ℕ) → c ≢ n → b ≡ true → (b && not (c == n)) ≡ true
 other_channel b c n apart there = let is = ne_eqb c n apart in rw (there, is) refl
@@ -111,29 +99,7 @@ other_channel b c n apart there = let is = ne_eqb c n apart in rw (there, is) re
 -- the active mask has all that is wanted
 pub active_contains : (shape : ShapeRecord) (wanted mask : ℕ) → is_within (data_part shape wanted) mask ≡ true
     → is_within wanted (with_stamp shape wanted mask) ≡ true
-active_contains shape wanted mask inside = by_stamp (is_some shape.stamp) inside
-  where
-    n : ℕ
-    n = length shape.channels
-
-    others : is_within (without_channel wanted n) mask ≡ true → (c : ℕ) → c ≢ n → has wanted c ≡ true → has mask c ≡ true
-    others inside c apart there = has-within (without_channel wanted n) mask inside c (has-without wanted n c ∙ other_channel (has wanted c) c n apart there)
-
-    by_bit : (b : Bool) → has wanted n ≡ b → is_within (without_channel wanted n) mask ≡ true → is_within wanted (cond b (union_of mask (2 ^ n)) mask) ≡ true
-    by_bit true stamped inside = is_within-from wanted (union_of mask (2 ^ n)) (λ c there.
-        has-or mask (2 ^ n) c ∙ elim (cases_eq c n) [
-          | inl stamp ↦ rw (stamp, has-pow n) (or_true (has mask n))
-          | inr apart ↦ rw (others inside c apart there) refl
-        ])
-    by_bit false none inside = is_within-from wanted mask (λ c there. elim (cases_eq c n) [
-      | inl stamp ↦ let back : has wanted n ≡ true = rw stamp at there in cc
-      | inr apart ↦ others inside c apart there
-    ])
-
-    by_stamp : (b : Bool) → is_within (cond b (without_channel wanted n) wanted) mask ≡ true
-        → is_within wanted (cond (b && has wanted n) (union_of mask (2 ^ n)) mask) ≡ true
-    by_stamp true inside = by_bit (has wanted n) refl inside
-    by_stamp false inside = inside
+active_contains shape wanted mask inside = grind (arith, common_steps, has-within, has-without, other_channel, is_within-from, has-or, has-pow, or_true)
 
 -- the active mask has no channel that isn't there: a listed mask is one of all channels
 pub listed_wider : (listed : List ℕ) (n m : ℕ) → n ≤ m → All (λ mask. (0 < mask) × (mask < 2 ^ n)) listed → All (λ mask. mask < 2 ^ m) listed
@@ -149,8 +115,7 @@ last_bit_below shape n there is =
     rw count (omega (arith, less, more))
   where
     one_stamp : (stamp : Option Endian) → is_some stamp ≡ true → length (stamp_formats stamp) ≡ 1
-    one_stamp None h = cc
-    one_stamp (Some order) h = refl
+    one_stamp stamp h = search rules
 
 -- ---- whether there is a data channel
 

@@ -1,31 +1,27 @@
 -- Places, sizes and scans: bounds, another channel, and the timestamp.
-use Rattle.std.proofs.Common.{◌≡◌, ◌≢◌, ℕ, ◌+◌, ◌-◌, ◌*◌, ◌/◌, ◌%◌, ◌^◌, ◌<◌, ◌≤◌, max, true, false, List, [], ◌∷◌, ◌++◌, length, map, take, sum_by, Option, Some, None, ℤ, refl, sym, ap, ◌∙◌, inl, inr, arith, add-one}
+use Rattle.std.proofs.Common.{◌≡◌, ◌≢◌, ℕ, ◌+◌, ◌-◌, ◌*◌, ◌/◌, ◌%◌, ◌^◌, ◌<◌, ◌≤◌, max, true, false, List, [], ◌∷◌, ◌++◌, length, map, take, Some, ℤ, refl, ap, ◌∙◌, inl, inr, arith, add-one, rules}
+use Rattle.std.proofs.lemmas.Grind.{common_steps}
 use Rattle.std.specs.Int.{IsPowerOfTwo, next_multiple_of}
 use Rattle.std.proofs.lemmas.Bool.{cases_lt, cases_eq}
-use Rattle.std.proofs.lemmas.List.{length-take-le, take-append-le, take_all}
-use Rattle.std.proofs.Math.Nat.{mod-eq_of_lt, mod_self, mod-zero, mul-le-mul_left, mul-mod_right, mul_assoc, zero-mod}
+use Rattle.std.proofs.Math.Nat.{mod-eq_of_lt, mod_self, mod-zero, mul-mod_right, mul_assoc, zero-mod}
 use Rattle.std.proofs.Math.Pow.{pow_mono, pow-add}
 use Rattle.iio_mask.specs.Mask.{has}
 use Rattle.iio_scan_type.specs.Bytes.{channel_bytes}
 use Rattle.iio_scan_type.specs.Format.{Format, stamp_format}
 use Rattle.iio_scan_type.specs.declared.Endian.{Endian}
 use Rattle.iio_scan_type.specs.declared.TheConstants.{MAX_CHANNEL_SIZE}
-use Rattle.std.proofs.Math.Seq.{drop-append_seam, take-append-add}
-use borrow.Rule.Slice.PartMut.{post_of, put_mid}
+use Rattle.std.proofs.Math.Seq.{take-append-add}
+use borrow.Rule.Slice.PartMut.{put_mid}
 use Rattle.iio_layout.specs.declared.channel.Channel.{Channel}
 use Rattle.iio_layout.specs.Layout.{end_below, format_at, largest_below, scan_size, size_at}
-use Rattle.iio_layout.specs.Scan.{capture_values, field_of, first_value, values_at}
+use Rattle.iio_layout.specs.Scan.{capture_values, field_of, values_at}
 use Rattle.iio_layout.specs.Shape.{ShapeRecord, count_of, formats_of, stamp_formats, width_of}
-use Rattle.iio_layout.specs.Laws.{count_is, end_grows, first_value_is}
+use Rattle.iio_layout.specs.Laws.{count_is, end_grows}
 
 -- ---- multiples
 
 below_next : (x y q p : ℕ) → y * q < x → x ≤ y * p → y * (q + 1) ≤ y * p
-below_next x y q p above below =
-    elim (cases_lt q p) [
-      | inl less ↦ mul-le-mul_left y (omega arith)
-      | inr more ↦ let back = mul-le-mul_left y more in absurd (omega arith)
-    ]
+below_next x y q p above below = grind (arith, common_steps)
 
 -- no multiple at or above a number is below the least one
 pub next_multiple-le : (x y m : ℕ) → 0 < y → x ≤ m → m % y ≡ 0 → next_multiple_of x y ≤ m
@@ -45,29 +41,11 @@ next_multiple-le x y m some within whole =
 
 -- a number between a multiple and the next one, less its remainder, is that multiple
 multiple_is : (y l q : ℕ) → y * q ≤ l → l < y * (q + 1) → l - l % y ≡ y * q
-multiple_is y l q from below =
-    elim (cases_lt (l / y) q) [
-      | inl less ↦ let next : y * (l / y + 1) ≤ y * q = mul-le-mul_left y (omega arith) in absurd (omega arith)
-      | inr more ↦ elim (cases_eq (l / y) q) [
-        | inl same ↦ let whole = ap (λ p. y * p) same in omega (arith, whole)
-        | inr apart ↦ let next : y * (q + 1) ≤ y * (l / y) = mul-le-mul_left y (omega arith) in absurd (omega arith)
-      ]
-    ]
+multiple_is y l q from below = grind (arith, common_steps)
 
 -- the last multiple that begins before the least one at or above a number ends is that least one
 pub last_multiple : (x y : ℕ) → 0 < y → x + (y - 1) - (x + (y - 1)) % y ≡ next_multiple_of x y
-last_multiple x y some =
-    elim (cases_eq (x % y) 0) [
-      | inl on ↦
-          let gap : y - x % y ≡ y = omega arith in
-          let none : (y - x % y) % y ≡ 0 = rw gap (mod_self y) in
-          let is = multiple_is y (x + (y - 1)) (x / y) (omega arith) (omega arith) in
-          omega (arith, is, none)
-      | inr off ↦
-          let rest : (y - x % y) % y ≡ y - x % y = mod-eq_of_lt (omega arith) in
-          let is = multiple_is y (x + (y - 1)) (x / y + 1) (omega arith) (omega arith) in
-          omega (arith, is, rest)
-    ]
+last_multiple x y some = grind (arith, common_steps, multiple_is)
 
 -- a multiple of zero
 pub next_multiple-zero : (x : ℕ) → next_multiple_of x 0 ≡ x
@@ -155,20 +133,12 @@ stamp_type (x ∷ xs) endian = stamp_type xs endian
 
 pub stamp_type_of : (shape : ShapeRecord) (endian : Endian) → shape.stamp ≡ Some endian
     → format_at (formats_of shape) (length shape.channels) ≡ stamp_format endian
-stamp_type_of shape endian stamped =
-    ap (λ stamp. format_at (map (λ channel. channel.ty) shape.channels ++ stamp_formats stamp) (length shape.channels)) stamped
-    ∙ stamp_type shape.channels endian
+stamp_type_of shape endian stamped = search (rules, stamp_type)
 
 -- the timestamp's one value is the moment
 pub stamp_values : (shape : ShapeRecord) (endian : Endian) (values : List ℤ) (t : ℤ) → shape.stamp ≡ Some endian → length values ≡ width_of shape
     → t ∷ [] ≡ values_at (formats_of shape) (capture_values values t) (length shape.channels)
-stamp_values shape endian values t stamped wide =
-    let formats = formats_of shape in
-    let first : first_value formats (length shape.channels) ≡ length values =
-    first_value_is shape.channels (stamp_formats shape.stamp) (length shape.channels) (omega arith)
-    ∙ ap (λ xs. sum_by (λ channel. channel.ty.repeat) xs) (take_all (length shape.channels) shape.channels (omega arith)) ∙ sym wide in
-    let type = stamp_type_of shape endian stamped in
-    rw (first, type, drop-append_seam values (t ∷ [])) refl
+stamp_values shape endian values t stamped wide = grind (arith, common_steps)
 
 pub stamped_count : (shape : ShapeRecord) (endian : Endian) → shape.stamp ≡ Some endian → length shape.channels + 1 ≡ count_of shape
 stamped_count shape endian some = let count = count_is shape in let stamp = ap (λ s. length (stamp_formats s)) some in omega arith
@@ -176,29 +146,11 @@ stamped_count shape endian some = let count = count_is shape in let stamp = ap (
 -- the timestamp's bytes are those of the moment
 pub stamp_field : (shape : ShapeRecord) (values : List ℤ) (t : ℤ) (c : ℕ) → length values ≡ width_of shape → length shape.channels ≤ c → c < count_of shape
     → ((format_at (formats_of shape) c).repeat ≡ 1) × (channel_bytes (format_at (formats_of shape) c) (t ∷ []) ≡ field_of shape values t c)
-stamp_field shape values t c wide after within = by_stamp shape.stamp refl
-  where
-    by_stamp : (stamp : Option Endian) → shape.stamp ≡ stamp
-        → ((format_at (formats_of shape) c).repeat ≡ 1) × (channel_bytes (format_at (formats_of shape) c) (t ∷ []) ≡ field_of shape values t c)
-    by_stamp None none =
-        let count = count_is shape in
-        let no_stamp = ap (λ stamp. length (stamp_formats stamp)) none in
-        absurd (omega arith)
-    by_stamp (Some endian) some =
-        let count = stamped_count shape endian some in
-        let last : c ≡ length shape.channels = omega arith in
-        rw last (
-          ap (λ (f : Format). f.repeat) (stamp_type_of shape endian some),
-          ap (channel_bytes (format_at (formats_of shape) (length shape.channels)))
-              (stamp_values shape endian values t some wide),
-        )
+stamp_field shape values t c wide after within = grind (arith, common_steps)
 
 -- ---- bytes
 
 -- what is written at the front of the bytes from a place on
 pub take-put_front : (place size m : ℕ) (out part : List ℕ) → place ≤ length out → size ≤ length part
     → take (place + size) (put_mid place m out part) ≡ take place out ++ take size part
-take-put_front place size m out part within room =
-    let rest : List ℕ = post_of place m out in
-    ap (λ n. take (n + size) (take place out ++ (part ++ rest))) (sym (length-take-le place out within))
-    ∙ take-append-add (take place out) (part ++ rest) size ∙ ap (λ bytes. take place out ++ bytes) (take-append-le size part rest room)
+take-put_front place size m out part within room = grind (arith, common_steps, take-append-add)

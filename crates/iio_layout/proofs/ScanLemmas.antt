@@ -1,9 +1,9 @@
 -- A scan as it is filled: channel by channel of the mask.
-use Rattle.std.proofs.Common.{◌≡◌, ℕ, zero, suc, ◌+◌, ◌-◌, ◌%◌, ◌^◌, ◌<◌, ◌≤◌, true, false, cond, List, [], ◌∷◌, ◌++◌, refl, sym, ap, ◌∙◌, inl, inr, arith, append-nil, bit_and}
+use Rattle.std.proofs.Common.{◌≡◌, ℕ, zero, suc, ◌+◌, ◌-◌, ◌%◌, ◌^◌, ◌<◌, ◌≤◌, true, false, cond, List, [], ◌∷◌, ◌++◌, refl, sym, ap, ◌∙◌, inl, inr, arith, append-nil, bit_and, rules}
 use Rattle.std.specs.Prelude.{filter}
 use Rattle.std.specs.List.{range_with_len}
-use Rattle.std.specs.Int.{IsPowerOfTwo, next_multiple_of, bit_at}
-use Rattle.std.proofs.lemmas.Bool.{cases_Bool, cases_lt, eqb-true}
+use Rattle.std.specs.Int.{IsPowerOfTwo, next_multiple_of}
+use Rattle.std.proofs.lemmas.Bool.{cases_lt}
 use Rattle.std.proofs.lemmas.List.Elements.{filter-append}
 use Rattle.std.proofs.lemmas.Nat.{and_mask}
 use Rattle.std.proofs.lemmas.Nat.Bits.{bit_at_above}
@@ -21,14 +21,7 @@ and_size n size power = rw power.1 (and_mask n power.0)
 -- ---- the channels of a mask
 
 pub has-below : (mask n c : ℕ) → mask < 2 ^ n → has mask c ≡ true → c < n
-has-below mask n c small there =
-    elim (cases_lt c n) [
-      | inl below ↦ below
-      | inr above ↦
-          let none = bit_at_above mask n c small above in
-          let one = eqb-true (bit_at mask c) 1 there in
-          absurd (omega arith)
-    ]
+has-below mask n c small there = search (rules, bit_at_above)
 
 channels_more : (mask n : ℕ) → channels_below mask (suc n) ≡ channels_below mask n ++ cond (has mask n) (n ∷ []) []
 channels_more mask n =
@@ -68,9 +61,7 @@ front_over formats values front (c ∷ cs) = front_over formats values (padded f
 
 pub end_over-ge : (formats : List Format) (end : ℕ) (cs : List ℕ) → end ≤ end_over formats end cs
 end_over-ge formats end [] = omega arith
-end_over-ge formats end (c ∷ cs) =
-    let rest = end_over-ge formats (next_multiple_of end (size_at formats c) + size_at formats c) cs in
-    omega (arith, rest)
+end_over-ge formats end (c ∷ cs) = search (rules, end_over-ge formats (next_multiple_of end (size_at formats c) + size_at formats c) cs)
 
 end_over-append : (formats : List Format) (end : ℕ) (cs ds : List ℕ) → end_over formats end (cs ++ ds) ≡ end_over formats (end_over formats end cs) ds
 end_over-append formats end [] ds = refl
@@ -83,15 +74,9 @@ front_over-append formats values front (c ∷ cs) ds = front_over-append formats
 
 pub end_over-all : (formats : List Format) (mask n : ℕ) → end_over formats 0 (channels_below mask n) ≡ end_below formats mask n
 end_over-all formats mask zero = refl
-end_over-all formats mask (suc n) =
-    ap (end_over formats 0) (channels_more mask n) ∙ end_over-append formats 0 (channels_below mask n) (cond (has mask n) (n ∷ []) [])
-    ∙ ap (λ end. end_over formats end (cond (has mask n) (n ∷ []) [])) (end_over-all formats mask n)
-    ∙ elim (cases_Bool (has mask n)) [ inl there ↦ rw there refl | inr other ↦ rw other refl ]
+end_over-all formats mask (suc n) = search (rules, channels_more, end_over-append, end_over-all formats mask n)
 
 pub front_over-all : (formats : List Format) (values : List ℤ) (mask n : ℕ)
     → front_over formats values [] (channels_below mask n) ≡ front_below formats mask values n
 front_over-all formats values mask zero = refl
-front_over-all formats values mask (suc n) =
-    ap (front_over formats values []) (channels_more mask n) ∙ front_over-append formats values [] (channels_below mask n) (cond (has mask n) (n ∷ []) [])
-    ∙ ap (λ front. front_over formats values front (cond (has mask n) (n ∷ []) [])) (front_over-all formats values mask n)
-    ∙ elim (cases_Bool (has mask n)) [ inl there ↦ rw there refl | inr other ↦ rw other refl ]
+front_over-all formats values mask (suc n) = search (rules, channels_more, front_over-append, front_over-all formats values mask n)

@@ -1,15 +1,15 @@
 -- Shapes: channels that are the same, listed masks, and where values begin.
-use Rattle.std.proofs.Common.{◌≡◌, ℕ, ◌+◌, ◌<◌, ◌≤◌, ◌==◌, nat_lt, ◌&&◌, if◌then◌else◌, Bool, true, false, List, [], ◌∷◌, length, get_or, map, take, All, Option, Some, None, is_some, refl, sym, ap, ◌∙◌, subst, inl, inr, arith}
+use Rattle.std.proofs.Common.{◌≡◌, ℕ, ◌+◌, ◌<◌, ◌≤◌, ◌==◌, nat_lt, if◌then◌else◌, Bool, true, false, List, [], ◌∷◌, length, get_or, map, take, All, Option, Some, None, refl, sym, ap, ◌∙◌, subst, arith, rules}
+use Rattle.std.proofs.lemmas.Grind.{common_steps}
 use Rattle.std.specs.List.{AllPairs, list_any, position}
-use Rattle.std.proofs.lemmas.Bool.{and_right, cases_eq, cond_above, cond_below, eq-eqb, false≢true, false_from_ne_true, ne_eqb, true≢false}
+use Rattle.std.proofs.lemmas.Bool.{cond_above, false≢true, false_from_ne_true, true≢false}
 use Rattle.std.proofs.lemmas.List.{get_or-map, get_or-take, get_or_read, length-map, length-take}
 use Rattle.std.proofs.lemmas.List.Folds.{Any-from_list_any, list_any_at}
-use Rattle.std.proofs.lemmas.List.Quantifiers.{position-Some}
 use Rattle.std.proofs.lemmas.List.Sums.{position_or_len_is}
 use Rattle.iio_layout.specs.declared.channel.Channel.{Channel}
 use Rattle.iio_layout.specs.declared.channel.Kind.{Kind}
 use Rattle.iio_layout.specs.declared.channel.Suffix.{Suffix}
-use Rattle.iio_layout.specs.declared.channel.Suffix.TheVariants.{Bare, Number, X, Y, Z}
+use Rattle.iio_layout.specs.declared.channel.Suffix.TheVariants.{Number, X, Y}
 use Rattle.iio_layout.specs.Id.{id_of, kind_rank, same_id, suffix_rank}
 use Rattle.iio_layout.specs.Shape.{ShapeRecord, channel_of, id_at, same_channel}
 use Rattle.iio_layout.specs.View.{AreNumbered}
@@ -32,8 +32,7 @@ pub differs : (xs : List Channel) (c : ℕ) (x : Channel) → c < length xs → 
     → (i : ℕ) (d : Channel) → i < c → same_channel (get_or xs i d) (get_or xs c d) ≡ false
 differs xs c x within is none i d below =
     false_from_ne_true (same_channel (get_or xs i d) (get_or xs c d)) (λ same.
-    let here : same_channel (get_or (take c xs) i d) x ≡ true =
-    rw (get_or-take c xs i d below, get_or_read xs c x within is d) same in
+    let here : same_channel (get_or (take c xs) i d) x ≡ true = grind (arith, common_steps) in
     let some = list_any_at (λ before. same_channel before x) (take c xs) i d (omega (arith, length-take c xs)) here in
     false≢true (sym none ∙ some))
 
@@ -52,9 +51,7 @@ channel_of-at shape text id o spelled is = rw (← spelled) is
 -- the first place that passes: it passes, and none before it does
 pub first_place : {X : Type 0} (p : X → Bool) (xs : List X) (i : ℕ) (d : X) → i < length xs
     → ((k : ℕ) → k < i → p (get_or xs k d) ≡ false) → p (get_or xs i d) ≡ true → position p xs ≡ Some i
-first_place p xs i d within fails passes =
-    ap (λ (n : ℕ). if nat_lt n (length xs) then Some n else None) (position_or_len_is p xs i d (omega (arith, within)) fails (λ l. passes))
-    ∙ sym (cond_below i (length xs) (Some i) None within)
+first_place p xs i d within fails passes = search (rules, position_or_len_is)
 
 -- no place passes
 pub no_place : {X : Type 0} (p : X → Bool) (xs : List X) → ((k : ℕ) (d : X) → k < length xs → p (get_or xs k d) ≡ false)
@@ -68,70 +65,40 @@ no_place p (x ∷ xs) fails =
 
 -- the first place that passes is a place of the list
 pub place_within : {X : Type 0} (p : X → Bool) (xs : List X) (i : ℕ) → Some i ≡ position p xs → i < length xs
-place_within p [] i is = absurd (true≢false (ap (λ (o : Option ℕ). is_some o) is))
-place_within p (x ∷ xs) i is = (position-Some p (x ∷ xs) i x (sym is)).0
+place_within p xs i is = search rules
 
 -- ---- channels of which each has its place for its number
 
 -- a channel has no ID with another number than its own
 other_number : (kind : Kind) (suffix : Suffix) (x : Channel) (n : ℕ) → x.suffix ≡ Number n → (n + 4 ≡ suffix_rank suffix → ⊥)
     → same_id (id_at x) (kind, suffix) ≡ false
-other_number kind suffix x n is other =
-    and_right (kind_rank x.kind == kind_rank kind) (suffix_rank x.suffix == suffix_rank suffix)
-    (ap (λ (s : Suffix). suffix_rank s == suffix_rank suffix) is ∙ ne_eqb (n + 4) (suffix_rank suffix) other)
+other_number kind suffix x n is other = search rules
 
 -- a channel has the ID with its own number if it has the ID's kind
 own_number : (kind : Kind) (x : Channel) (n : ℕ) → x.suffix ≡ Number n
     → same_id (id_at x) (kind, Number n) ≡ (kind_rank x.kind == kind_rank kind)
-own_number kind x n is =
-    ap (λ (b : Bool). (kind_rank x.kind == kind_rank kind) && b)
-    (ap (λ (s : Suffix). suffix_rank s == n + 4) is ∙ eq-eqb (n + 4) (n + 4) refl)
-    ∙ and_true (kind_rank x.kind == kind_rank kind)
-  where
-    and_true : (b : Bool) → (b && true) ≡ b
-    and_true true = refl
-    and_true false = refl
+own_number kind x n is = search rules
 
 -- a suffix that is no number has the rank of no number
 not_numbered : (suffix : Suffix) → ((n : ℕ) → suffix ≡ Number n → ⊥) → (n : ℕ) → n + 4 ≡ suffix_rank suffix → ⊥
-not_numbered Bare none n is = omega (arith, is)
-not_numbered (Number m) none n is = none m refl
-not_numbered X none n is = omega (arith, is)
-not_numbered Y none n is = omega (arith, is)
-not_numbered Z none n is = omega (arith, is)
+not_numbered suffix none n is = search rules
 
 -- an ID without a number isn't found
 pub none_numbered : (kind : Kind) (suffix : Suffix) (xs : List Channel) → AreNumbered xs → ((n : ℕ) → suffix ≡ Number n → ⊥)
     → None ≡ position (λ channel. same_id (id_at channel) (kind, suffix)) xs
-none_numbered kind suffix xs are none =
-    sym (no_place (λ channel. same_id (id_at channel) (kind, suffix)) xs
-    (λ k d within. other_number kind suffix (get_or xs k d) k (are k d within) (not_numbered suffix none k)))
+none_numbered kind suffix xs are none = grind (arith, common_steps, no_place, other_number, not_numbered)
 
 -- an ID with a number that is no place isn't found
 pub number_above : (kind : Kind) (n : ℕ) (xs : List Channel) → AreNumbered xs → length xs ≤ n
     → None ≡ position (λ channel. same_id (id_at channel) (kind, Number n)) xs
-number_above kind n xs are above =
-    sym (no_place (λ channel. same_id (id_at channel) (kind, Number n)) xs
-    (λ k d within. other_number kind (Number n) (get_or xs k d) k (are k d within) (λ e. omega (arith, e, within, above))))
+number_above kind n xs are above = search (rules, no_place, other_number)
 
 -- an ID whose number is the place of a channel of another kind isn't found
 pub number_of_other_kind : (kind : Kind) (n : ℕ) (x : Channel) (xs : List Channel) → AreNumbered xs → n < length xs → x ≡ get_or xs n x
     → (kind_rank x.kind == kind_rank kind) ≡ false → None ≡ position (λ channel. same_id (id_at channel) (kind, Number n)) xs
-number_of_other_kind kind n x xs are within is other =
-    sym (no_place (λ channel. same_id (id_at channel) (kind, Number n)) xs
-    (λ k d inside.
-    elim (cases_eq k n) [
-      | inl same ↦
-          own_number kind (get_or xs k d) n (are k d inside ∙ ap (λ (m : ℕ). Number m) same)
-          ∙ ap (λ (y : Channel). kind_rank y.kind == kind_rank kind) (ap (λ (m : ℕ). get_or xs m d) same ∙ sym (get_or_read xs n x within is d))
-          ∙ other
-      | inr apart ↦ other_number kind (Number n) (get_or xs k d) k (are k d inside) (λ e. apart (omega (arith, e)))
-    ]))
+number_of_other_kind kind n x xs are within is other = grind (arith, common_steps, no_place, own_number, other_number)
 
 -- an ID whose number is the place of a channel of its kind is found there
 pub number_of_kind : (kind : Kind) (n : ℕ) (x : Channel) (xs : List Channel) → AreNumbered xs → n < length xs → x ≡ get_or xs n x
     → (kind_rank x.kind == kind_rank kind) ≡ true → Some n ≡ position (λ channel. same_id (id_at channel) (kind, Number n)) xs
-number_of_kind kind n x xs are within is same =
-    sym (first_place (λ channel. same_id (id_at channel) (kind, Number n)) xs n x within
-    (λ k below. other_number kind (Number n) (get_or xs k x) k (are k x (omega (arith, below, within))) (λ e. omega (arith, e, below)))
-    (own_number kind (get_or xs n x) n (are n x within) ∙ ap (λ (y : Channel). kind_rank y.kind == kind_rank kind) (sym is) ∙ same))
+number_of_kind kind n x xs are within is same = search (rules, first_place, other_number, own_number)

@@ -1,8 +1,8 @@
 -- The values of a capture, by what each element is.
-use Rattle.std.proofs.Common.{◌≡◌, ℕ, zero, suc, ◌+◌, ◌*◌, ◌^◌, ◌<◌, ◌≤◌, List, [], ◌∷◌, ◌++◌, length, get_or, take, drop, refl, sym, ap, ◌∙◌, inl, inr, arith, ℤ, pos, add-one, append_assoc, append-nil}
+use Rattle.std.proofs.Common.{◌≡◌, ℕ, zero, suc, ◌+◌, ◌*◌, ◌^◌, ◌<◌, ◌≤◌, List, [], ◌∷◌, ◌++◌, length, get_or, take, drop, refl, sym, ap, ◌∙◌, inl, inr, arith, ℤ, pos, add-one, append_assoc, append-nil, rules}
+use Rattle.std.proofs.lemmas.Grind.{common_steps}
 use Rattle.std.proofs.lemmas.Bool.{cases_lt}
-use Rattle.std.proofs.lemmas.List.{drop_at, get_or-drop, length-drop, take_all, take_at, take_more}
-use Rattle.std.proofs.Math.Nat.{mul-le-mul_left, mul_comm}
+use Rattle.std.proofs.lemmas.List.{drop_at, take_all, take_at, take_more}
 use Rattle.std.proofs.Math.Seq.{take-add}
 use Rattle.iio_layout.proofs.LayoutLemmas.{take-put_front}
 use borrow.Rule.Slice.PartMut.{put_mid}
@@ -56,11 +56,7 @@ data_field shape value t c within =
 
 elements_in : (xs : List ℤ) (m n : ℕ) → m + n ≤ length xs → elements_below (λ k. get_or xs (m + k) (pos 0)) n ≡ take n (drop m xs)
 elements_in xs m zero within = refl
-elements_in xs m (suc n) within =
-    let more = take_more (drop m xs) n (pos 0) (omega (arith, length-drop m xs)) in
-    ap (λ ys. ys ++ get_or xs (m + n) (pos 0) ∷ []) (elements_in xs m n (omega arith))
-    ∙ ap (λ y. take n (drop m xs) ++ y ∷ []) (sym (get_or-drop m xs n (pos 0)))
-    ∙ sym more ∙ ap (λ k. take k (drop m xs)) (add-one n)
+elements_in xs m (suc n) within = grind (arith, common_steps, take_more, elements_in xs m n (omega arith))
 
 values_in : (formats : List Format) (xs : List ℤ) (n : ℕ) → n ≤ length formats → first_value formats n ≤ length xs
     → values_below formats (λ c k. get_or xs (first_value formats c + k) (pos 0)) n ≡ take (first_value formats n) xs
@@ -89,19 +85,12 @@ length-element_bytes ty v = length-number_bytes ty.endian (element_size ty) (low
 
 channel_bytes-more : (ty : Format) (xs : List ℤ) (v : ℤ) → channel_bytes ty (xs ++ v ∷ []) ≡ channel_bytes ty xs ++ element_bytes ty v
 channel_bytes-more ty [] v = append-nil (element_bytes ty v)
-channel_bytes-more ty (x ∷ xs) v =
-    ap (λ bytes. element_bytes ty x ++ bytes) (channel_bytes-more ty xs v) ∙ sym (append_assoc (element_bytes ty x) (channel_bytes ty xs) (element_bytes ty v))
+channel_bytes-more ty (x ∷ xs) v = grind (arith, common_steps, channel_bytes-more ty xs v)
 
 pub row_within : (n k many : ℕ) → k < many → (k + 1) * n ≤ n * many
-row_within n k many below =
-    let more : k + 1 ≤ many = omega arith in
-    omega (arith, mul-le-mul_left n more, mul_comm (k + 1) n)
+row_within n k many below = search rules
 
 pub elements_more : (ty : Format) (value : ℕ → ℤ) (k n m : ℕ) (out part : List ℕ) → n ≡ element_size ty → take n part ≡ element_bytes ty (value k)
     → n ≤ length part → (k + 1) * n ≤ length out → take (k * n) out ≡ channel_bytes ty (elements_below value k)
     → take ((k + 1) * n) (put_mid (k * n) m out part) ≡ channel_bytes ty (elements_below value (k + 1))
-elements_more ty value k n m out part size is long room so_far =
-    let next : (k + 1) * n ≡ k * n + n = grind arith in
-    ap (λ j. take j (put_mid (k * n) m out part)) next ∙ take-put_front (k * n) n m out part (omega arith) long
-    ∙ ap (λ bytes. bytes ++ take n part) so_far ∙ ap (λ bytes. channel_bytes ty (elements_below value k) ++ bytes) is
-    ∙ sym (channel_bytes-more ty (elements_below value k) (value k)) ∙ rw (add-one k) refl
+elements_more ty value k n m out part size is long room so_far = search (rules, take-put_front, channel_bytes-more)

@@ -1,5 +1,5 @@
 -- What a device's channels are: the shape that scans, masks and values follow.
-use Rattle.std.specs.Prelude.{◌≡◌, ℕ, ◌^◌, ◌<◌, ◌≤◌, ◌&&◌, Bool, true, false, List, [], ◌∷◌, ◌++◌, length, map, sum_by, Option, Some, None, option_and_then, All, AllPairs, position, ℤ}
+use Rattle.std.specs.Prelude.{◌≡◌, ℕ, ◌^◌, ◌<◌, ◌≤◌, ◌&&◌, Bool, true, false, List, [], ◌∷◌, ◌++◌, length, map, sum_by, Option, Some, None, option_and_then, slice_get, codes, All, AllPairs, position, ℤ}
 use Rattle.iio_scan_type.specs.declared.Endian.{Endian}
 use Rattle.iio_scan_type.specs.Format.{Format, stamp_format}
 use Rattle.iio_layout.specs.declared.channel.Kind.{Kind}
@@ -8,7 +8,7 @@ use Rattle.iio_layout.specs.declared.channel.Direction.{Direction}
 use Rattle.iio_layout.specs.declared.channel.Direction.TheVariants.{Input, Output}
 use Rattle.iio_layout.specs.declared.channel.Channel.{Channel}
 use Rattle.iio_layout.specs.declared.shape.TheConstants.{MAX_CHANNELS}
-use Rattle.iio_layout.specs.Id.{id_of, same_id}
+use Rattle.iio_layout.specs.Id.{id_of, id_text, same_id}
 
 -- a device's channels in the order of their numbers; the byte order of its timestamp, which is the last channel,
 -- if it has one; and the masks that its sensor can be asked under, if they are listed
@@ -72,3 +72,12 @@ pub record IsShape (shape : ShapeRecord) : Type 0 where
   pub few : count_of shape ≤ MAX_CHANNELS
   pub distinct : AllPairs (λ a b. same_channel a b ≡ false) shape.channels
   pub listed : All (λ mask. (0 < mask) × (mask < 2 ^ length shape.channels)) shape.listed
+
+-- the ID of a data channel, or else the timestamp's
+abbrev pub name_of : Option Channel → List ℕ
+name_of (Some channel) = id_text channel.kind channel.suffix
+name_of None = codes "timestamp"
+
+-- the ID of channel c; after the data channels it is the timestamp's
+abbrev pub channel_name : ShapeRecord → ℕ → List ℕ
+channel_name shape c = name_of (slice_get shape.channels c)

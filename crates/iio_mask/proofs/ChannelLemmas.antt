@@ -1,5 +1,5 @@
 -- The channels of a mask in their order, and what unions do to them.
-use Rattle.std.proofs.Common.{◌≡◌, ℕ, zero, suc, ◌+◌, ◌-◌, ◌^◌, ◌<◌, ◌≤◌, ◌&&◌, Bool, true, false, not, [], ◌∷◌, refl, ap, ◌∙◌, inl, inr, arith, bit_and}
+use Rattle.std.proofs.Common.{◌≡◌, ℕ, zero, suc, ◌+◌, ◌-◌, ◌^◌, ◌<◌, ◌≤◌, ◌&&◌, Bool, true, false, not, [], ◌∷◌, refl, ap, ◌∙◌, inl, inr, arith, bit_and, rules}
 use Rattle.std.specs.Prelude.{filter}
 use Rattle.std.specs.List.{range_with_len}
 use Rattle.std.specs.Int.{bit_at, trailing_zeros, w64}
@@ -11,9 +11,7 @@ use Rattle.iio_mask.proofs.PlaceLemmas.{and_one_less, has-minus}
 -- two tests that agree on the numbers after c keep the same ones of those
 filter_after : (p q : ℕ → Bool) (c a n : ℕ) → ((i : ℕ) → c < i → q i ≡ p i) → c < a → filter p (range_with_len a n) ≡ filter q (range_with_len a n)
 filter_after p q c a zero same after = refl
-filter_after p q c a (suc n) same after =
-    let rest = filter_after p q c (a + 1) n same (omega arith) in
-    rw (same a after, rest) refl
+filter_after p q c a (suc n) same after = search (rules, filter_after p q c (a + 1) n same (omega arith))
 
 -- the first number that passes a test, and the others
 filter_first : (p q : ℕ → Bool) (c a n : ℕ) → p c ≡ true → q c ≡ false → ((i : ℕ) → i < c → p i ≡ false) → ((i : ℕ) → i < c → q i ≡ false)
@@ -51,12 +49,10 @@ channels_of-first bits some fits =
     (omega arith) (omega (arith, lowest.0))
   where
     and_not_true : (b : Bool) → (b && not true) ≡ false
-    and_not_true true = refl
-    and_not_true false = refl
+    and_not_true b = search rules
 
     and_not_false : (b : Bool) → (b && not false) ≡ b
-    and_not_false true = refl
-    and_not_false false = refl
+    and_not_false b = search rules
 
 -- the first channel is a bit of the mask
 pub first_has : (bits : ℕ) → 0 < bits → bits < 2 ^ 64 → has bits (trailing_zeros w64 bits) ≡ true

@@ -1,7 +1,7 @@
 -- What the operations on numbers do to the places of their one bits.
-use Rattle.std.proofs.Common.{◌≡◌, ℕ, zero, suc, ◌+◌, ◌-◌, ◌*◌, ◌/◌, ◌%◌, ◌^◌, ◌<◌, ◌≤◌, ◌==◌, ◌&&◌, ◌||◌, max, Bool, true, false, not, IsTrue, refl, sym, ap, ◌∙◌, inl, inr, arith, bit_and, bit_or, pow-suc}
+use Rattle.std.proofs.Common.{◌≡◌, ℕ, zero, suc, ◌+◌, ◌-◌, ◌*◌, ◌/◌, ◌%◌, ◌^◌, ◌<◌, ◌≤◌, ◌==◌, ◌&&◌, ◌||◌, max, Bool, true, false, not, IsTrue, refl, sym, ap, ◌∙◌, inl, inr, arith, bit_and, bit_or, pow-suc, rules}
 use Rattle.std.specs.Int.{bit_at}
-use Rattle.std.proofs.lemmas.Bool.{cases_Bool, cases_eq, cases_lt, cases_order, eqb-true, eq-eqb, ne_eqb}
+use Rattle.std.proofs.lemmas.Bool.{cases_eq, cases_lt, cases_order, eqb-true, eq-eqb, ne_eqb}
 use Rattle.std.proofs.lemmas.Nat.Bits.{bit_at_and, bit_at_or, bit_at-lt, bit_at-zero, bit_at_above, bit_at-pow_same, bit_at-pow_other, bit_at_ones_above, same_from_bits, same_from_bits_below, bit_at_cat_low, bit_at_cat_high, bit_at-suc, bit_at_lowest}
 use Rattle.std.proofs.lemmas.Nat.{pow_pos}
 use Rattle.std.proofs.Math.Nat.{mul_comm}
@@ -9,12 +9,7 @@ use Rattle.iio_mask.specs.Mask.{has, is_within, without_channel}
 
 -- the greater of two bits is 1 exactly if one of them is
 max_is_one : (x y : ℕ) → x < 2 → y < 2 → (max x y == 1) ≡ (x == 1 || y == 1)
-max_is_one zero zero hx hy = refl
-max_is_one zero (suc zero) hx hy = refl
-max_is_one (suc zero) zero hx hy = refl
-max_is_one (suc zero) (suc zero) hx hy = refl
-max_is_one (suc (suc x)) y hx hy = absurd (omega arith)
-max_is_one x (suc (suc y)) hx hy = absurd (omega arith)
+max_is_one x y hx hy = search rules
 
 pub has-or : (a b c : ℕ) → has (bit_or a b) c ≡ (has a c || has b c)
 has-or a b c = rw (bit_at_or a b c) (max_is_one (bit_at a c) (bit_at b c) (bit_at-lt a c) (bit_at-lt b c))
@@ -35,13 +30,7 @@ has-above bits c fits above = rw (bit_at_above bits 64 c fits above) refl
 
 -- each channel of the first is in the second
 pub has-within : (a b : ℕ) → IsTrue (is_within a b) → (c : ℕ) → IsTrue (has a c) → IsTrue (has b c)
-has-within a b within c h =
-    let same = eqb-true (bit_and a b) a within in
-    let both = bit_at_and a b c in
-    let one = eqb-true (bit_at a c) 1 h in
-    let bit : bit_at (bit_and a b) c ≡ bit_at a c = ap (λ n. bit_at n c) same in
-    let small = bit_at-lt b c in
-    eq-eqb (bit_at b c) 1 (omega arith)
+has-within a b within c h = search (rules, bit_at_and, bit_at-lt)
 
 pub is_within-from : (a b : ℕ) → ((c : ℕ) → IsTrue (has a c) → IsTrue (has b c)) → IsTrue (is_within a b)
 is_within-from a b each =
@@ -60,9 +49,7 @@ is_within-from a b each =
 -- an odd number and the even one below it have the same bits above the lowest one
 odd_bits : (a j : ℕ) → 0 < j → bit_at (2 * a) j ≡ bit_at (2 * a + 1) j
 odd_bits a zero h = absurd (omega arith)
-odd_bits a (suc j) h =
-    let e : 2 * a / 2 ≡ (2 * a + 1) / 2 = omega arith in
-    bit_at-suc (2 * a) j ∙ ap (λ n. bit_at n j) e ∙ sym (bit_at-suc (2 * a + 1) j)
+odd_bits a (suc j) h = search (rules, bit_at-suc)
 
 -- a number by what is above and below its bit c
 split_at_bit : (n c : ℕ) → n ≡ n / 2 ^ c * 2 ^ c + n % 2 ^ c
@@ -73,12 +60,10 @@ minus_bit : (n p q r a : ℕ) → n ≡ q * p + r → q ≡ 2 * a + 1 → n - p 
 minus_bit n p q r a whole odd = rw (whole, odd) (omega arith)
 
 and_true : (b : Bool) → b ≡ (b && true)
-and_true true = refl
-and_true false = refl
+and_true b = search rules
 
 and_false : (b : Bool) → false ≡ (b && false)
-and_false true = refl
-and_false false = refl
+and_false b = search rules
 
 the_difference : (k c : ℕ) → k ≡ c → k - c ≡ 0
 the_difference k c e = omega arith
@@ -96,47 +81,22 @@ has-minus n c k h =
     let less = minus_bit n (2 ^ c) (n / 2 ^ c) (n % 2 ^ c) (n / 2 ^ c / 2) whole odd in
     elim (cases_order k c) [
       | inl same ↦
-          let none : bit_at (n - 2 ^ c) k ≡ 0 =
-          ap (λ m. bit_at m k) less
-          ∙ bit_at_cat_high (2 * (n / 2 ^ c / 2)) c (n % 2 ^ c) k low (omega arith)
-          ∙ ap (λ j. bit_at (2 * (n / 2 ^ c / 2)) j) (the_difference k c same)
-          ∙ bit_at_lowest (2 * (n / 2 ^ c / 2)) ∙ even (n / 2 ^ c / 2) in
+          let none : bit_at (n - 2 ^ c) k ≡ 0 = search (rules, bit_at_cat_high, the_difference, bit_at_lowest, even) in
           let is = eq-eqb k c same in
           rw (none, is) (and_false (has n k))
       | inr (inl below) ↦
-          let kept : bit_at (n - 2 ^ c) k ≡ bit_at n k =
-          ap (λ m. bit_at m k) less
-          ∙ bit_at_cat_low (2 * (n / 2 ^ c / 2)) c (n % 2 ^ c) k below
-          ∙ sym (bit_at_cat_low (n / 2 ^ c) c (n % 2 ^ c) k below)
-          ∙ sym (ap (λ m. bit_at m k) whole) in
+          let kept : bit_at (n - 2 ^ c) k ≡ bit_at n k = search (rules, bit_at_cat_low) in
           let other = ne_eqb k c (λ e. omega arith) in
           rw (kept, other) (and_true (has n k))
       | inr (inr above) ↦
-          let kept : bit_at (n - 2 ^ c) k ≡ bit_at n k =
-          ap (λ m. bit_at m k) less
-          ∙ bit_at_cat_high (2 * (n / 2 ^ c / 2)) c (n % 2 ^ c) k low (omega arith)
-          ∙ odd_bits (n / 2 ^ c / 2) (k - c) (omega arith)
-          ∙ ap (λ q. bit_at q (k - c)) (sym odd)
-          ∙ sym (bit_at_cat_high (n / 2 ^ c) c (n % 2 ^ c) k low (omega arith))
-          ∙ sym (ap (λ m. bit_at m k) whole) in
+          let kept : bit_at (n - 2 ^ c) k ≡ bit_at n k = search (rules, bit_at_cat_high, odd_bits) in
           let other = ne_eqb k c (λ e. omega arith) in
           rw (kept, other) (and_true (has n k))
     ]
 
 -- a mask without a channel has its other channels
 pub has-without : (n c k : ℕ) → has (without_channel n c) k ≡ (has n k && not (k == c))
-has-without n c k =
-    elim (cases_Bool (has n c)) [
-      | inl there ↦ rw there (has-minus n c k there)
-      | inr not_there ↦
-          rw not_there (elim (cases_eq k c) [
-            | inl same ↦
-                let is = eq-eqb k c same in
-                let none : has n k ≡ false = rw same not_there in
-                rw (is, none) refl
-            | inr other ↦ let is = ne_eqb k c other in rw is (and_true (has n k))
-          ])
-    ]
+has-without n c k = search (rules, has-minus, and_true)
 
 -- ---- a number without its lowest one bit
 

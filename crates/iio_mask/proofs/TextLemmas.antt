@@ -1,15 +1,15 @@
 -- The text of a mask, both ways, and what the crate `hex` reads and writes.
-use Rattle.std.proofs.Common.{◌≡◌, ℕ, zero, suc, ◌+◌, ◌-◌, ◌*◌, ◌/◌, ◌%◌, ◌^◌, ◌<◌, ◌≤◌, ◌==◌, nat_lt, nat_le, true, cond, List, [], ◌∷◌, ◌++◌, length, get_or, slice_index, replicate, Option, Some, None, Result, Ok, Err, option_map, option_and_then, MatchOption, MatchResult, refl, sym, ap, ◌∙◌, inl, inr, arith}
+use Rattle.std.proofs.Common.{◌≡◌, ℕ, zero, suc, ◌+◌, ◌-◌, ◌*◌, ◌/◌, ◌%◌, ◌^◌, ◌<◌, ◌≤◌, nat_lt, cond, List, [], ◌∷◌, ◌++◌, length, get_or, slice_index, replicate, Option, Some, None, Result, Ok, Err, option_map, option_and_then, MatchOption, MatchResult, refl, sym, ap, ◌∙◌, arith, rules}
+use Rattle.std.proofs.lemmas.Grind.{common_steps}
 use Rattle.std.specs.Int.{Width, w32, w64, byte_at, byte_len, bytes_high_first, to_be_bytes, from_be_bytes}
 use Rattle.std.specs.Result.{result_ok}
 use Rattle.std.specs.Str.{str_to_ascii_lowercase}
 use Rattle.std.specs.Char.{to_ascii_lowercase}
-use Rattle.std.proofs.lemmas.Bool.{cases_eq, cases_lt, cond_both, eqb-true, eq-eqb, ne_eqb, leb-true, agree_below_at, lt-ltb, le-ltb, le-leb, lt-leb}
+use Rattle.std.proofs.lemmas.Bool.{eq-eqb, lt-ltb, le-leb, lt-leb}
 use Rattle.std.proofs.lemmas.Bool.Decides.{nat_tests}
 use Rattle.std.proofs.lemmas.List.{length-map}
-use Rattle.std.proofs.lemmas.Nat.{be_bytes_4, be_bytes_8, from_be_bytes-to_be_bytes_4, from_be_bytes-to_be_bytes_8}
-use Rattle.std.proofs.Math.Pow.{pow_mono}
-use Rattle.hex.specs.Hex.{decode_pairs, decode_sized, digit_or_error, encode_lower, encode_with, hex_digit_value, lower_digits, pair_value, ◌>>=◌}
+use Rattle.std.proofs.lemmas.Nat.{be_bytes_4, be_bytes_8}
+use Rattle.hex.specs.Hex.{decode_pairs, decode_sized, digit_or_error, encode_lower, encode_with, hex_digit_value, lower_digits, ◌>>=◌}
 use Rattle.hex.specs.declared.error.FromHexError.{FromHexError}
 use Rattle.hex.proofs.HexLemmas.{IsDigits-lower_digits}
 use Rattle.iio_mask.specs.Text.{below_channels, byte_of, bytes_of, digit_count, digits_of, mask_of, mask_text, mask_width, number_of, sized_bytes, IsMaskText}
@@ -25,49 +25,25 @@ encode_lower-is (b ∷ bytes) = ap (λ (t : List ℕ). slice_index lower_digits 
 pair_ok : (h l i : ℕ) (high low : Option ℕ)
     → result_ok (digit_or_error h i high >>= λ x. digit_or_error l (i + 1) low >>= λ y. Ok (x * 16 + y))
     ≡ option_and_then (λ x. option_map (λ y. x * 16 + y) low) high
-pair_ok h l i (Some x) (Some y) = refl
-pair_ok h l i (Some x) None = refl
-pair_ok h l i None low = refl
+pair_ok h l i high low = search rules
 
 both_ok : (byte : Result ℕ FromHexError) (rest : Result (List ℕ) FromHexError)
     → result_ok (byte >>= λ b. rest >>= λ bs. Ok (b ∷ bs)) ≡ option_and_then (λ b. option_map (λ bs. b ∷ bs) (result_ok rest)) (result_ok byte)
-both_ok (Ok b) (Ok bs) = refl
-both_ok (Ok b) (Err e) = refl
-both_ok (Err e) rest = refl
+both_ok byte rest = search rules
 
 pairs_ok : (i : ℕ) (text : List ℕ) → result_ok (decode_pairs i text) ≡ bytes_of text
 unfolding decode_pairs
 pairs_ok i [] = refl
 pairs_ok i (c ∷ []) = refl
-pairs_ok i (h ∷ l ∷ rest) =
-    both_ok (pair_value h l i) (decode_pairs (i + 2) rest)
-    ∙ ap (λ (o : Option (List ℕ)). option_and_then (λ b. option_map (λ bs. b ∷ bs) o) (result_ok (pair_value h l i))) (pairs_ok (i + 2) rest)
-    ∙ ap (λ (o : Option ℕ). option_and_then (λ b. option_map (λ bs. b ∷ bs) (bytes_of rest)) o) (pair_ok h l i (hex_digit_value h) (hex_digit_value l))
+pairs_ok i (h ∷ l ∷ rest) = simp (both_ok, pair_ok, pairs_ok (i + 2) rest)
 
 sized_ok : (text : List ℕ) (n : ℕ) → result_ok (decode_sized text n) ≡ sized_bytes text n
-sized_ok text n =
-    elim (cases_eq (length text) (2 * n)) [
-      | inl same ↦
-          let even = ne_eqb (length text % 2) 1 (λ h. omega arith) in
-          let half = eq-eqb (length text / 2) n (omega arith) in
-          let is = eq-eqb (length text) (2 * n) same in
-          rw (even, half, is) (pairs_ok 0 text)
-      | inr other ↦
-          let is = ne_eqb (length text) (2 * n) other in
-          elim (cases_eq (length text % 2) 1) [
-            | inl odd ↦ let is_odd = eq-eqb (length text % 2) 1 odd in rw (is_odd, is) refl
-            | inr even ↦
-                let is_even = ne_eqb (length text % 2) 1 even in
-                let half = ne_eqb (length text / 2) n (λ h. other (omega arith)) in
-                rw (is_even, half, is) refl
-          ]
-    ]
+sized_ok text n = grind (arith, common_steps, pairs_ok)
 
 matched : (decoded : Result (List ℕ) FromHexError) (result : Result (Unit {0}) FromHexError) (out : List ℕ)
     → MatchResult decoded (λ bytes. (result ≡ Ok tt) × (out ≡ bytes)) (λ e. result ≡ Err e)
     → MatchOption (result_ok decoded) (result_ok result ≡ None) (λ bytes. (result_ok result ≡ Some tt) × (out ≡ bytes))
-matched (Ok bytes) result out h = (ap result_ok h.0, h.1)
-matched (Err e) result out h = ap result_ok h
+matched decoded result out h = search rules
 
 -- what the buffer has after `decode_to_slice`
 pub decoded : (text : List ℕ) (n : ℕ) (result : Result (Unit {0}) FromHexError) (out : List ℕ)
@@ -83,25 +59,17 @@ length-digits_of [] = refl
 length-digits_of (b ∷ bytes) = let e = length-digits_of bytes in omega (arith, e)
 
 pub length-to_be_bytes : (channels n : ℕ) → length (to_be_bytes (mask_width channels) n) ≡ byte_len (mask_width channels)
-length-to_be_bytes channels n =
-    cond_both (nat_le channels 32) w32 w64 (λ w. length (to_be_bytes w n) ≡ byte_len w) (λ _. refl) (λ _. refl)
+length-to_be_bytes channels n = search rules
 
 -- the bytes of a number with no bit at or above the channel count give it back
 from_bytes_of : (channels n : ℕ) → channels ≤ 64 → n < 2 ^ channels
     → from_be_bytes (mask_width channels) (to_be_bytes (mask_width channels) n) ≡ n
-from_bytes_of channels n few below =
-    cond_both (nat_le channels 32) w32 w64 (λ w. from_be_bytes w (to_be_bytes w n) ≡ n)
-    (λ one. from_be_bytes-to_be_bytes_4 n (let fits = pow_mono (leb-true channels 32 one) in omega arith))
-    (λ two. from_be_bytes-to_be_bytes_8 n (let fits = pow_mono few in omega arith))
+from_bytes_of channels n few below = search rules
 
 -- the number of that many bytes gives them back
 bytes_of_from : (channels : ℕ) (bytes : List ℕ) → length bytes ≡ byte_len (mask_width channels) → ((i : ℕ) → get_or bytes i 0 < 256)
     → to_be_bytes (mask_width channels) (from_be_bytes (mask_width channels) bytes) ≡ bytes
-bytes_of_from channels bytes =
-    cond_both (nat_le channels 32) w32 w64
-    (λ w. length bytes ≡ byte_len w → ((i : ℕ) → get_or bytes i 0 < 256) → to_be_bytes w (from_be_bytes w bytes) ≡ bytes)
-    (λ _ len each. be_bytes_4 bytes (from_be_bytes w32 bytes) len each refl)
-    (λ _ len each. be_bytes_8 bytes (from_be_bytes w64 bytes) len each refl)
+bytes_of_from channels bytes h1 h2 = search (rules, be_bytes_4, be_bytes_8)
 
 byte_of_digits : (b : ℕ) → b < 256 → byte_of (slice_index lower_digits (b / 16)) (slice_index lower_digits (b % 16)) ≡ Some b
 byte_of_digits b fits =
@@ -119,8 +87,7 @@ bytes_of-digits_of (b ∷ bytes) each =
     rw (first, rest) refl
 
 byte_at-lt : (i n : ℕ) → byte_at i n < 256
-byte_at-lt zero n = omega arith
-byte_at-lt (suc i) n = omega arith
+byte_at-lt i n = search rules
 
 high_first_fits : (k n i : ℕ) → get_or (bytes_high_first k n) i 0 < 256
 high_first_fits zero n i = omega arith
@@ -141,19 +108,14 @@ hex_digit_value-lower c = grind (arith, nat_tests)
 bytes_of-lower : (text : List ℕ) → bytes_of (str_to_ascii_lowercase text) ≡ bytes_of text
 bytes_of-lower [] = refl
 bytes_of-lower (c ∷ []) = refl
-bytes_of-lower (h ∷ l ∷ rest) =
-    let high = hex_digit_value-lower h in
-    let low = hex_digit_value-lower l in
-    let others = bytes_of-lower rest in
-    rw (high, low, others) refl
+bytes_of-lower (h ∷ l ∷ rest) = simp (hex_digit_value-lower, bytes_of-lower rest)
 
 -- the digit of a value, in lower case
 abbrev glyph : ℕ → ℕ
 glyph d = cond (nat_lt d 10) (48 + d) (87 + d)
 
 digit_is_glyph : (d : ℕ) → d < 16 → slice_index lower_digits d ≡ glyph d
-digit_is_glyph d small =
-    eqb-true (slice_index lower_digits d) (glyph d) (agree_below_at (λ k. slice_index lower_digits k == glyph k) (λ _. true) 16 d refl small)
+digit_is_glyph d small = search rules
 
 -- a digit that is read is that of its value, in either case
 lower_is_glyph : (c d : ℕ) → hex_digit_value c ≡ Some d → (to_ascii_lowercase c ≡ glyph d) × (d < 16)
@@ -169,12 +131,10 @@ pub record Spells (text bytes : List ℕ) : Type 0 where
   pub len : length text ≡ 2 * length bytes
 
 bound_some : {A B : Type 0} (o : Option A) (f : A → Option B) (y : B) → option_and_then f o ≡ Some y → (x : A) × (o ≡ Some x) × (f x ≡ Some y)
-bound_some (Some x) f y h = (x, refl, h)
-bound_some None f y h = cc h
+bound_some o f y h = search rules
 
 mapped_some : {A B : Type 0} (o : Option A) (f : A → B) (y : B) → option_map f o ≡ Some y → (x : A) × (o ≡ Some x) × (f x ≡ y)
-mapped_some (Some x) f y h = (x, refl, cc)
-mapped_some None f y h = cc h
+mapped_some o f y h = search rules
 
 Spells-pair : (h l x y : ℕ) (text bytes : List ℕ) → hex_digit_value h ≡ Some x → hex_digit_value l ≡ Some y
     → Spells text bytes → Spells (h ∷ l ∷ text) ((x * 16 + y) ∷ bytes)
@@ -190,9 +150,7 @@ Spells-pair h l x y text bytes high low rest =
     }
 
 pub bytes_of-spells : (text bytes : List ℕ) → bytes_of text ≡ Some bytes → Spells text bytes
-bytes_of-spells [] bytes h =
-    let e : [] ≡ bytes = cc in
-    rw (← e) (record { lower = refl; small = λ i. omega arith; len = refl })
+bytes_of-spells [] bytes h = search rules
 bytes_of-spells (c ∷ []) bytes h = cc h
 bytes_of-spells (h ∷ l ∷ rest) bytes is =
     let byte = bound_some (byte_of h l) (λ b. option_map (λ bs. b ∷ bs) (bytes_of rest)) bytes is in
@@ -203,30 +161,11 @@ bytes_of-spells (h ∷ l ∷ rest) bytes is =
     rw (← e) (Spells-pair h l high.0 low.0 rest more.0 high.1 low.1 (bytes_of-spells rest more.0 more.1))
 
 below_some : (channels m n : ℕ) → below_channels channels m ≡ Some n → (m < 2 ^ channels) × (m ≡ n)
-below_some channels m n h =
-    elim (cases_lt m (2 ^ channels)) [
-      | inl below ↦
-          let is = lt-ltb m (2 ^ channels) below in
-          let e = rw is at h in
-          (below, cc)
-      | inr above ↦
-          let is = le-ltb m (2 ^ channels) above in
-          let e = rw is at h in
-          cc e
-    ]
+below_some channels m n h = search rules
 
 sized_some : (text : List ℕ) (n : ℕ) (bytes : List ℕ) → sized_bytes text n ≡ Some bytes
     → (length text ≡ 2 * n) × (bytes_of text ≡ Some bytes)
-sized_some text n bytes h =
-    elim (cases_eq (length text) (2 * n)) [
-      | inl same ↦
-          let is = eq-eqb (length text) (2 * n) same in
-          (same, rw is at h)
-      | inr other ↦
-          let is = ne_eqb (length text) (2 * n) other in
-          let e = rw is at h in
-          cc e
-    ]
+sized_some text n bytes h = search rules
 
 -- what is read is a text of the mask
 pub text-mask_of : (channels n : ℕ) (text : List ℕ) → mask_of text channels ≡ Some n → IsMaskText channels text n
@@ -260,38 +199,23 @@ mask_of-text channels n text few is =
 
 -- a printed digit is in lower case
 lower_digit : (d : ℕ) → d < 16 → to_ascii_lowercase (slice_index lower_digits d) ≡ slice_index lower_digits d
-lower_digit d small =
-    eqb-true (to_ascii_lowercase (slice_index lower_digits d)) (slice_index lower_digits d)
-    (agree_below_at (λ k. to_ascii_lowercase (slice_index lower_digits k) == slice_index lower_digits k) (λ _. true) 16 d refl small)
+lower_digit d small = search rules
 
 lower-digits_of : (bytes : List ℕ) → ((i : ℕ) → get_or bytes i 0 < 256) → str_to_ascii_lowercase (digits_of bytes) ≡ digits_of bytes
 lower-digits_of [] each = refl
-lower-digits_of (b ∷ bytes) each =
-    let fits : b < 256 = each 0 in
-    let high = lower_digit (b / 16) (omega arith) in
-    let low = lower_digit (b % 16) (omega arith) in
-    let rest = lower-digits_of bytes (λ i. each (suc i)) in
-    rw (high, low, rest) refl
+lower-digits_of (b ∷ bytes) each = grind (arith, common_steps, lower_digit, lower-digits_of bytes (λ i. each (suc i)))
 
 -- what is printed is read back
 pub mask_of-mask_text : (channels n : ℕ) → channels ≤ 64 → n < 2 ^ channels → mask_of (mask_text channels n) channels ≡ Some n
-mask_of-mask_text channels n few below =
-    mask_of-text channels n (mask_text channels n) few (record {
-      below = below;
-      spelled = lower-digits_of (to_be_bytes (mask_width channels) n) (byte_at_fits (mask_width channels) n);
-    })
+mask_of-mask_text channels n few below = search (rules, mask_of-text, lower-digits_of, byte_at_fits)
 
 -- ---- one word, and two
 
 pub word_text : (channels n : ℕ) (text : List ℕ) → channels ≤ 32 → text ≡ encode_lower (to_be_bytes w32 n) → text ≡ mask_text channels n
-word_text channels n text few is =
-    let one = le-leb channels 32 few in
-    rw one (is ∙ encode_lower-is (to_be_bytes w32 n))
+word_text channels n text few is = search (rules, encode_lower-is)
 
 pub words_text : (channels n : ℕ) (text : List ℕ) → 32 < channels → text ≡ encode_lower (to_be_bytes w64 n) → text ≡ mask_text channels n
-words_text channels n text many is =
-    let two = lt-leb channels 32 many in
-    rw two (is ∙ encode_lower-is (to_be_bytes w64 n))
+words_text channels n text many is = search (rules, encode_lower-is)
 
 -- what a buffer of bytes has, and the number that a text spells
 abbrev pub ReadsBytes : List ℕ → ℕ → Option (Unit {0}) → List ℕ → Type 0
@@ -299,19 +223,15 @@ ReadsBytes text n result out = MatchOption (sized_bytes text n) (result ≡ None
 
 read_none : (o : Option (List ℕ)) (r : Option (Unit {0})) (out : List ℕ) (f : List ℕ → ℕ)
     → MatchOption o (r ≡ None) (λ bytes. (r ≡ Some tt) × (out ≡ bytes)) → r ≡ None → None ≡ option_map f o
-read_none (Some bytes) r out f h none = let some = h.0 in cc
-read_none None r out f h none = refl
+read_none o r out f h none = search rules
 
 read_some : (o : Option (List ℕ)) (r : Option (Unit {0})) (out : List ℕ) (f : List ℕ → ℕ) (u : Unit {0})
     → MatchOption o (r ≡ None) (λ bytes. (r ≡ Some tt) × (out ≡ bytes)) → r ≡ Some u → Some (f out) ≡ option_map f o
-read_some (Some bytes) r out f u h some = ap (λ (b : List ℕ). Some (f b)) h.1
-read_some None r out f u h some = cc
+read_some o r out f u h some = search rules
 
 pub word_none : (text : List ℕ) (channels : ℕ) (r : Option (Unit {0})) (out : List ℕ) → channels ≤ 32 → ReadsBytes text 4 r out → r ≡ None
     → None ≡ number_of text channels
-word_none text channels r out few h none =
-    let one = le-leb channels 32 few in
-    rw one (read_none (sized_bytes text 4) r out (from_be_bytes w32) h none)
+word_none text channels r out few h none = grind (arith, common_steps, read_none)
 
 pub word_some : (text : List ℕ) (channels : ℕ) (r : Option (Unit {0})) (out : List ℕ) (u : Unit {0}) → channels ≤ 32 → ReadsBytes text 4 r out → r ≡ Some u
     → Some (from_be_bytes w32 out) ≡ number_of text channels
@@ -321,9 +241,7 @@ word_some text channels r out u few h some =
 
 pub words_none : (text : List ℕ) (channels : ℕ) (r : Option (Unit {0})) (out : List ℕ) → 32 < channels → ReadsBytes text 8 r out → r ≡ None
     → None ≡ number_of text channels
-words_none text channels r out many h none =
-    let two = lt-leb channels 32 many in
-    rw two (read_none (sized_bytes text 8) r out (from_be_bytes w64) h none)
+words_none text channels r out many h none = grind (arith, common_steps, read_none)
 
 pub words_some : (text : List ℕ) (channels : ℕ) (r : Option (Unit {0})) (out : List ℕ) (u : Unit {0}) → 32 < channels → ReadsBytes text 8 r out → r ≡ Some u
     → Some (from_be_bytes w64 out) ≡ number_of text channels
@@ -335,12 +253,8 @@ words_some text channels r out u many h some =
 
 pub word_buffer : (channels n : ℕ) (out : List ℕ) → channels ≤ 32 → out ≡ encode_lower (to_be_bytes w32 n)
     → out ++ replicate 8 0 ≡ mask_text channels n ++ replicate (16 - digit_count channels) 0
-word_buffer channels n out few is =
-    let one = le-leb channels 32 few in
-    rw one (ap (λ (t : List ℕ). t ++ replicate 8 0) (is ∙ encode_lower-is (to_be_bytes w32 n)))
+word_buffer channels n out few is = search (rules, encode_lower-is)
 
 pub words_buffer : (channels n : ℕ) (out : List ℕ) → 32 < channels → out ≡ encode_lower (to_be_bytes w64 n)
     → out ≡ mask_text channels n ++ replicate (16 - digit_count channels) 0
-words_buffer channels n out many is =
-    let two = lt-leb channels 32 many in
-    rw two (is ∙ encode_lower-is (to_be_bytes w64 n))
+words_buffer channels n out many is = search (rules, encode_lower-is)

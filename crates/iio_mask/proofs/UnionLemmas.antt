@@ -1,5 +1,5 @@
 -- Unions of masks, by the channels that are in them.
-use Rattle.std.proofs.Common.{◌≡◌, ℕ, zero, suc, ◌<◌, ◌==◌, ◌||◌, Bool, true, false, List, [], ◌∷◌, ◌++◌, refl, sym, ap, ◌∙◌, arith}
+use Rattle.std.proofs.Common.{◌≡◌, ℕ, ◌<◌, ◌==◌, ◌||◌, Bool, true, List, [], ◌∷◌, ◌++◌, refl, arith, rules}
 use Rattle.std.specs.Prelude.{Contains}
 use Rattle.std.specs.Int.{bit_at}
 use Rattle.std.specs.List.{list_any}
@@ -10,12 +10,7 @@ use Rattle.iio_mask.proofs.PlaceLemmas.{has-or, is_within-from}
 
 -- masks with the same channels are the same
 same_bit : (x y : ℕ) → x < 2 → y < 2 → (x == 1) ≡ (y == 1) → x ≡ y
-same_bit zero zero hx hy h = refl
-same_bit zero (suc zero) hx hy h = cc
-same_bit (suc zero) zero hx hy h = cc
-same_bit (suc zero) (suc zero) hx hy h = refl
-same_bit (suc (suc x)) y hx hy h = absurd (omega arith)
-same_bit x (suc (suc y)) hx hy h = absurd (omega arith)
+same_bit x y hx hy h = search rules
 
 pub same_from_has : (a b : ℕ) → ((c : ℕ) → has a c ≡ has b c) → a ≡ b
 same_from_has a b same = same_from_bits a b (λ c. same_bit (bit_at a c) (bit_at b c) (bit_at-lt a c) (bit_at-lt b c) (same c))
@@ -23,8 +18,7 @@ same_from_has a b same = same_from_bits a b (λ c. same_bit (bit_at a c) (bit_at
 -- ---- two masks
 
 or_true : (b : Bool) → (b || true) ≡ true
-or_true true = refl
-or_true false = refl
+or_true b = search rules
 
 pub within_first : (a b : ℕ) → is_within a (union_of a b) ≡ true
 within_first a b = is_within-from a (union_of a b) (λ c there. rw (has-or a b c, there) refl)
@@ -39,22 +33,13 @@ union_of_all-has [] c = rw (bit_at_above 0 0 c (omega arith) (omega arith)) refl
 union_of_all-has (mask ∷ masks) c = rw (has-or mask (union_of_all masks) c, union_of_all-has masks c) refl
 
 or_swap : (p q r : Bool) → (p || (q || r)) ≡ (q || (p || r))
-or_swap true true r = refl
-or_swap true false r = refl
-or_swap false q r = refl
+or_swap p q r = search rules
 
 pub union_of_all-more : (before after : List ℕ) (mask : ℕ) → union_of_all (before ++ mask ∷ after) ≡ union_of mask (union_of_all (before ++ after))
-union_of_all-more before after mask = same_from_has _ _ (λ c.
-    let test : ℕ → Bool = λ m. has m c in
-    union_of_all-has (before ++ mask ∷ after) c
-    ∙ list_any-append test before (mask ∷ after)
-    ∙ or_swap (list_any test before) (has mask c) (list_any test after)
-    ∙ ap (λ b. has mask c || b) (sym (union_of_all-has (before ++ after) c ∙ list_any-append test before after))
-    ∙ sym (has-or mask (union_of_all (before ++ after)) c))
+union_of_all-more before after mask = search (rules, same_from_has, union_of_all-has, list_any-append, or_swap, has-or)
 
 pub union_of_all-less : (before after : List ℕ) (mask : ℕ) → is_within (union_of_all (before ++ after)) (union_of_all (before ++ mask ∷ after)) ≡ true
 union_of_all-less before after mask = rw (union_of_all-more before after mask) (within_second mask (union_of_all (before ++ after)))
 
 pub union_of_all-member : (masks : List ℕ) (mask : ℕ) → Contains masks mask → is_within mask (union_of_all masks) ≡ true
-union_of_all-member masks mask (k, within, is) = is_within-from mask (union_of_all masks) (λ c there.
-    union_of_all-has masks c ∙ list_any_at (λ m. has m c) masks k mask within (ap (λ m. has m c) is ∙ there))
+union_of_all-member masks mask h1 = search (rules, is_within-from, union_of_all-has, list_any_at)

@@ -1,12 +1,12 @@
 -- Scans that stand one after the other in bytes: how many there are, those in two runs of bytes, the first of them and the
 -- others, and the first few.
-use Rattle.std.proofs.Common.{◌≡◌, ℕ, zero, suc, ◌+◌, ◌-◌, ◌*◌, ◌/◌, ◌%◌, ◌≤◌, ◌<◌, ◌==◌, min, nat_lt, Bool, true, false, ◌⊎◌, inl, inr, List, [], ◌∷◌, ◌++◌, length, take, drop, length-append, length-drop, mul-le-mul_right, refl, sym, ap, ◌∙◌, arith}
-use Rattle.std.proofs.lemmas.List.{length-take-le, nil_from_length, take_all, take-append-drop, take-append-le, drop-append-le}
+use Rattle.std.proofs.Common.{◌≡◌, ℕ, zero, suc, ◌+◌, ◌-◌, ◌*◌, ◌/◌, ◌%◌, ◌≤◌, ◌<◌, ◌==◌, min, nat_lt, Bool, true, false, ◌⊎◌, inl, inr, List, [], ◌∷◌, ◌++◌, length, take, drop, length-append, length-drop, mul-le-mul_right, refl, sym, ap, ◌∙◌, arith, rules}
+use Rattle.std.proofs.lemmas.Grind.{common_steps}
+use Rattle.std.proofs.lemmas.List.{length-take-le, take_all, take-append-drop, take-append-le, drop-append-le}
 use Rattle.std.proofs.lemmas.Bool.{cases_lt}
 use Rattle.std.proofs.lemmas.Bool.Decides.{nat_tests}
-use Rattle.std.proofs.lemmas.Nat.{div-add-mod', le-div}
 use Rattle.std.proofs.Math.Seq.{take-append_seam}
-use Rattle.std.proofs.Math.Nat.{div-eq_of_lt, mul-div_cancel, mul-mod_left, mul-sub, mul_comm, min-eq_left, min-eq_right}
+use Rattle.std.proofs.Math.Nat.{div-eq_of_lt, mul-div_cancel, mul-mod_left, mul-sub, mul_comm, min-eq_right}
 use Rattle.iio_output.specs.Written.{is_none_left, scans_in, scans_of}
 
 pub length-scans_in : (n size : ℕ) (bytes : List ℕ) → length (scans_in n size bytes) ≡ n
@@ -25,10 +25,7 @@ scans_in-front (suc n) size bytes rest long =
 
 -- the scans of two runs of bytes, the first of which is whole scans
 scans_in-append : (m n size : ℕ) (xs ys : List ℕ) → length xs ≡ m * size → scans_in (m + n) size (xs ++ ys) ≡ scans_in m size xs ++ scans_in n size ys
-scans_in-append zero n size xs ys whole =
-    let none = nil_from_length xs (omega (arith, whole)) in
-    let all : zero + n ≡ n = omega arith in
-    rw (none, all) refl
+scans_in-append zero n size xs ys whole = grind (arith, common_steps)
 scans_in-append (suc m) n size xs ys whole =
     let more : size ≤ length xs = omega (arith, whole) in
     let fewer : length (drop size xs) ≡ m * size = omega (arith, whole, length-drop size xs) in
@@ -40,10 +37,7 @@ scans_in-append (suc m) n size xs ys whole =
 
 -- bytes of whole scans, by how many there are
 pub whole_is : (size n : ℕ) → n % size ≡ 0 → n ≡ n / size * size
-whole_is size n whole = sym (div-add-mod' n size) ∙ ap (λ r. n / size * size + r) whole ∙ sum (n / size * size)
-  where
-    sum : (k : ℕ) → k + 0 ≡ k
-    sum k = omega arith
+whole_is size n whole = search rules
 
 pub is_whole : (size n k : ℕ) → n ≡ k * size → n % size ≡ 0
 is_whole size n k is = ap (λ m. m % size) is ∙ mul-mod_left k size
@@ -105,8 +99,7 @@ first_scan size bytes some whole any =
 
 -- whether there is no scan, by the number of scans
 none_by_length : (xs : List (List ℕ)) → is_none_left xs ≡ (length xs == 0)
-none_by_length [] = refl
-none_by_length (x ∷ xs) = let more : 0 < suc (length xs) = omega arith in grind (arith, nat_tests)
+none_by_length xs = search rules
 
 -- fewer bytes than a scan has are no scan
 pub none_below : (size : ℕ) (bytes : List ℕ) → 1 ≤ size → is_none_left (scans_of size bytes) ≡ nat_lt (length bytes) size
@@ -116,20 +109,11 @@ none_below size bytes some = none_by_length (scans_of size bytes) ∙ ap (λ n. 
     by true is =
         let less : length bytes < size = grind (arith, nat_tests) in
         ap (λ n. n == 0) (div-eq_of_lt less)
-    by false is =
-        let more : size ≤ length bytes = grind (arith, nat_tests) in
-        let one : 1 ≤ length bytes / size = le-div 1 (length bytes) size some (omega (arith, more)) in
-        grind (arith, nat_tests)
+    by false is = search rules
 
 -- no bytes and no scans are the same
 pub none_left : (size : ℕ) (bytes : List ℕ) → 1 ≤ size → length bytes % size ≡ 0 → is_none_left (scans_of size bytes) ≡ (length bytes == 0)
-none_left size bytes some whole = by (length bytes == 0) refl
-  where
-    by : (b : Bool) → (length bytes == 0) ≡ b → is_none_left (scans_of size bytes) ≡ b
-    by true is =
-        let none : bytes ≡ [] = nil_from_length bytes (grind (arith, nat_tests)) in
-        ap (λ bs. is_none_left (scans_of size bs)) none ∙ ap is_none_left (scans_of-none size some)
-    by false is = ap is_none_left (first_scan size bytes some whole is).0
+none_left size bytes some whole = search rules
 
 -- the first few scans stand in the first bytes
 pub take-scans_of : (most size : ℕ) (bytes : List ℕ) → 1 ≤ size → length bytes % size ≡ 0
@@ -144,12 +128,7 @@ take-scans_of most size bytes some whole = by (cases_lt most n)
 
     -- the first scans are all of them
     by_all : n ≤ most → take most (scans_of size bytes) ≡ scans_of size (take (min (length bytes) (most * size)) bytes)
-    by_all few =
-        let long : n * size ≤ most * size = mul-le-mul_right size few in
-        let count : min (length bytes) (most * size) ≡ length bytes = min-eq_left (omega (arith, is, long)) in
-        take_all most (scans_of size bytes) (omega (arith, length-scans_of size bytes, few))
-        ∙ ap (λ bs. scans_of size bs) (sym (take_all (length bytes) bytes (omega arith)))
-        ∙ ap (λ k. scans_of size (take k bytes)) (sym count)
+    by_all few = search (rules, take_all, length-scans_of)
 
     -- the first scans, and then the others
     by_first : most ≤ n → take most (scans_of size bytes) ≡ scans_of size (take (min (length bytes) (most * size)) bytes)

@@ -1,16 +1,16 @@
 -- What a writer's bytes make of its scans.
-use Rattle.std.proofs.Common.{◌≡◌, ℕ, ◌+◌, ◌-◌, ◌*◌, ◌/◌, ◌%◌, ◌≤◌, ◌<◌, ◌==◌, ◌&&◌, ◌||◌, not, if◌then◌else◌, is_some, unwrap_or, nat_lt, min, Bool, true, false, ◌⊎◌, inl, inr, List, [], ◌∷◌, ◌++◌, Option, None, length, take, drop, length-append, length-drop, mul-le-mul_right, refl, sym, ap, ◌∙◌, arith}
-use Rattle.std.proofs.lemmas.Bool.{cases_lt}
+use Rattle.std.proofs.Common.{◌≡◌, ℕ, ◌+◌, ◌-◌, ◌*◌, ◌/◌, ◌%◌, ◌≤◌, ◌==◌, ◌||◌, not, if◌then◌else◌, is_some, unwrap_or, nat_lt, min, Bool, true, false, List, [], ◌∷◌, ◌++◌, Option, None, length, take, drop, length-append, length-drop, sym, ap, ◌∙◌, arith, rules}
+use Rattle.std.proofs.lemmas.Grind.{common_steps}
 use Rattle.std.proofs.lemmas.Bool.Decides.{nat_tests}
-use Rattle.std.proofs.lemmas.List.{append-nil, drop_all, length-take-le, take_all}
-use Rattle.std.proofs.Math.Nat.{mul-lt-mul_of_pos_right, mul_comm, min-eq_left, min-eq_right, min-le_left, min-le_right}
+use Rattle.std.proofs.lemmas.List.{length-take-le, take_all}
+use Rattle.std.proofs.Math.Nat.{mul_comm, min-le_left, min-le_right}
 use Rattle.iio_base.specs.Refusals.{first_refusal}
 use Rattle.iio_output.specs.declared.writer.Wrote.{Wrote}
 use Rattle.iio_output.specs.declared.writer.Wrote.TheVariants.{Bytes, BadSize, Standing, Full}
 use Rattle.iio_output.specs.declared.writer.Next.TheVariants.{Given}
 use Rattle.iio_output.specs.Out.{WriterRecord, accepted_of, after_next, after_write, next_answer, room_after, taken_by, write_answer, write_faults}
 use Rattle.iio_output.specs.View.{AreWhole}
-use Rattle.iio_output.specs.Written.{after_given, is_bad_size, is_full, is_none_left, is_standing, room_of, scans_of}
+use Rattle.iio_output.specs.Written.{after_given, is_bad_size, is_full, is_standing, room_of, scans_of}
 use Rattle.iio_output.proofs.Scans.{counts_of, first_scan, is_whole, length-scans_of, none_below, one_scan, scans_of-append, take-scans_of, turned, whole_is}
 
 -- a writer with these bytes
@@ -22,77 +22,32 @@ writer_of mask size capacity cyclic bytes = record { mask = mask; size = size; c
 -- a queue of bytes is full exactly if it holds as many scans as the capacity
 pub full_is : (size capacity room : ℕ) (bytes : List ℕ) → AreWhole size capacity room bytes
     → (length bytes == room) ≡ not (nat_lt (length (scans_of size bytes)) capacity)
-full_is size capacity room bytes whole =
-    ap (λ n. length bytes == n) whole.roomy ∙ ap (λ n. n == capacity * size) is
-    ∙ same n capacity size whole.sized within
-    ∙ ap (λ k. not (nat_lt k capacity)) (sym (length-scans_of size bytes))
-  where
-    n : ℕ
-    n = length bytes / size
-
-    is : length bytes ≡ n * size
-    is = whole_is size (length bytes) whole.whole
-
-    within : n * size ≤ capacity * size
-    within = let i = is in let w = whole.within in let r = whole.roomy in omega (arith, i, w, r)
-
-    same : (a b k : ℕ) → 1 ≤ k → a * k ≤ b * k → (a * k == b * k) ≡ not (nat_lt a b)
-    same a b k some low = by (nat_lt a b) refl
-      where
-        by : (v : Bool) → nat_lt a b ≡ v → (a * k == b * k) ≡ not v
-        by true lt =
-            let less : a < b = grind (arith, nat_tests) in
-            let apart : a * k < b * k = mul-lt-mul_of_pos_right less some in
-            grind (arith, nat_tests)
-        by false ge =
-            let more : b ≤ a = grind (arith, nat_tests) in
-            let high : b * k ≤ a * k = mul-le-mul_right k more in
-            grind (arith, nat_tests)
+full_is size capacity room bytes whole = grind (arith, common_steps, length-scans_of, whole_is)
 
 -- a payload with a scan is one that a full queue has no room for
 pub full_for : (size capacity room : ℕ) (bytes payload : List ℕ) → AreWhole size capacity room bytes → size ≤ length payload
     → (length bytes == room) ≡ is_full false capacity (scans_of size bytes) (scans_of size payload)
-full_for size capacity room bytes payload whole long =
-    full_is size capacity room bytes whole ∙ ap (λ b. not b && not (nat_lt (length (scans_of size bytes)) capacity)) (sym some)
-  where
-    some : is_none_left (scans_of size payload) ≡ false
-    some = none_below size payload whole.sized ∙ (let l = long in grind (arith, nat_tests))
+full_for size capacity room bytes payload whole long = search (rules, full_is, none_below)
 
 -- ---- writing
 
 -- if the first refusal that applies is none, no refusal applies
 pub none_applies : (a b c : Bool) (x y z : Wrote) → first_refusal ((a, x) ∷ (b, y) ∷ (c, z) ∷ []) ≡ None → (a ≡ false) × (b ≡ false) × (c ≡ false)
-none_applies true b c x y z h = cc
-none_applies false true c x y z h = cc
-none_applies false false true x y z h = cc
-none_applies false false false x y z h = (refl, refl, refl)
+none_applies a b c x y z h = search rules
 
 pub or_false : (a b : Bool) → (a || b) ≡ false → (a ≡ false) × (b ≡ false)
-or_false true b h = cc
-or_false false b h = (refl, h)
+or_false a b h = search rules
 
 -- the room that is left, in bytes
 room_left : (size capacity room : ℕ) (bytes : List ℕ) → AreWhole size capacity room bytes
     → room - length bytes ≡ (capacity - length (scans_of size bytes)) * size
-room_left size capacity room bytes whole =
-    ap (λ n. n - length bytes) whole.roomy
-    ∙ ap (λ n. capacity * size - n) (whole_is size (length bytes) whole.whole)
-    ∙ sym (turned capacity (length bytes / size) size)
-    ∙ ap (λ n. (capacity - n) * size) (sym (length-scans_of size bytes))
+room_left size capacity room bytes whole = search (rules, whole_is, turned, length-scans_of)
 
 -- the room that is left, in bytes, at a writer that doesn't refuse the payload
 room_is : (size capacity room : ℕ) (cyclic : Bool) (bytes payload : List ℕ) → AreWhole size capacity room bytes
     → is_standing cyclic (scans_of size bytes) ≡ false
     → room - length bytes ≡ room_of cyclic capacity (scans_of size bytes) * size
-room_is size capacity room false bytes payload whole standing = room_left size capacity room bytes whole
-room_is size capacity room true bytes payload whole standing = by (scans_of size bytes) refl standing
-  where
-    by : (xs : List (List ℕ)) → scans_of size bytes ≡ xs → is_standing true xs ≡ false → room - length bytes ≡ room_of true capacity xs * size
-    by [] is none = room_left size capacity room bytes whole ∙ ap (λ (xs : List (List ℕ)). (capacity - length xs) * size) is ∙ all
-      where
-        all : (capacity - 0) * size ≡ capacity * size
-        all = let e : capacity - 0 ≡ capacity = omega arith in ap (λ n. n * size) e
-    by (x ∷ xs) is none = cc
+room_is size capacity room cyclic bytes payload whole standing = grind (arith, common_steps, room_left)
 
 -- a payload that isn't refused is written: what was taken of it, and the bytes afterwards
 pub record Written (mask size capacity room : ℕ) (cyclic : Bool) (bytes payload : List ℕ) (taken : ℕ) : Type 0 where
@@ -152,11 +107,7 @@ written mask size capacity room cyclic bytes payload taken whole unrefused is = 
     count = min (length payload / size) most
 
     times : (a b k : ℕ) → min (a * k) (b * k) ≡ min a b * k
-    times a b k = by (cases_lt a b)
-      where
-        by : (a < b) ⊎ (b ≤ a) → min (a * k) (b * k) ≡ min a b * k
-        by (inl less) = let low : a ≤ b = omega (arith, less) in min-eq_left (mul-le-mul_right k low) ∙ ap (λ n. n * k) (sym (min-eq_left low))
-        by (inr more) = min-eq_right (mul-le-mul_right k more) ∙ ap (λ n. n * k) (sym (min-eq_right more))
+    times a b k = search rules
 
     counted : taken ≡ count * size
     counted = is' ∙ ap (λ n. min n (most * size)) (whole_is size (length payload) payload_whole) ∙ times (length payload / size) most size
@@ -193,8 +144,7 @@ gave mask size capacity room bytes whole any = record {
   scan = λ out. ap (λ (xs : List (List ℕ)). room_after xs out) (sym first.0);
   once = ap (λ (xs : List (List ℕ)). with_scans false (after_given false xs)) (sym first.0);
   again = ap (λ (xs : List (List ℕ)). with_scans true xs) behind ∙ ap (λ (xs : List (List ℕ)). with_scans true (after_given true xs)) (sym first.0);
-  whole =
-      record { sized = whole.sized; some = whole.some; fits = whole.fits; roomy = whole.roomy; whole = first.2; within = omega (arith, less, whole.within) };
+  whole = grind (arith, common_steps);
   whole_again = record {
     sized = whole.sized;
     some = whole.some;
@@ -203,12 +153,7 @@ gave mask size capacity room bytes whole any = record {
     whole = ap (λ n. n % size) (omega (arith, length-append (drop size bytes) (take size bytes), less, sized, first.1)) ∙ whole.whole;
     within = omega (arith, length-append (drop size bytes) (take size bytes), less, sized, first.1, whole.within);
   };
-  read = λ count out is n.
-      let all : count ≡ size = omega (arith, is, n, first.1) in (
-        all,
-        ap (λ k. take k bytes ++ drop k out) all ∙ ap (λ (xs : List ℕ). take size bytes ++ xs) (drop_all size out (omega (arith, is)))
-            ∙ append-nil (take size bytes),
-      );
+  read = grind (arith, common_steps);
   filled = λ count n. take_all count (take size bytes) (omega (arith, n, less, sized, first.1, whole.within));
 }
   where

@@ -66,8 +66,7 @@ fn device_of<Q: Tail>(
     slots: &mut Vec<Option<Box<dyn Sensor + Send>>>,
 ) -> Result<Device<Q>, Mem>
     requires { IsFit (length slots.old.items) desc }
-    ensures device { IfOk result
-        (λ d. view_of ⟦<Plug as Sensor>⟧.driver d.core d.plug
+    ensures device { IfOk result (λ d. view_of ⟦<Plug as Sensor>⟧.driver d
         ≡ new_view desc number (driver_from (λ d. ⟦<Plug as Sensor>⟧.driver (Given d)) (slot_in desc.driver slots.old.items) desc.rows)) }
     ensures left { slots.new.items ≡ slots_left desc.driver slots.old.items }
 {
@@ -107,7 +106,7 @@ pub fn devices_of<Q: Tail + Drop>(
     requires few { length descs.items ≤ MAX_DEVICES }
     requires fit { All (IsFit (length drivers.items)) descs.items }
     requires apart { AllPairs (λ a b. share_driver a b ≡ false) descs.items }
-    ensures { IfOk result (λ v. map (λ d. view_of ⟦<Plug as Sensor>⟧.driver d.core d.plug) v.items
+    ensures { IfOk result (λ v. map (view_of ⟦<Plug as Sensor>⟧.driver) v.items
         ≡ first_devices (map (λ d. ⟦<Plug as Sensor>⟧.driver (Given d)) drivers.items) 0 descs.items) }
 {
     let mut slots = slots_of(alloc, drivers)?;

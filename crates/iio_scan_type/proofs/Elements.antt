@@ -1,10 +1,10 @@
 -- Elements of a channel, written and read.
-use Rattle.std.proofs.Common.{◌≡◌, ℕ, zero, suc, ◌+◌, ◌-◌, ◌*◌, ◌/◌, ◌%◌, ◌^◌, ◌<◌, ◌≤◌, List, [], ◌∷◌, ◌++◌, length, take, drop, reverse, get_or, refl, ap, sym, ◌∙◌, arith, ℤ, pos, negsuc, ◌≤ℤ◌, ◌-ℤ◌, lt-ltb, le-ltb, Bool, true, false, ltb, IsTrue, ◌⊎◌, inl, inr, append_assoc, subst}
-use Rattle.std.proofs.Math.Nat.{pow-suc, pow-le-pow_right, mod-eq_of_lt, div-div-eq-div-mul, one-le-pow, zero-mul}
+use Rattle.std.proofs.Common.{◌≡◌, ℕ, zero, suc, ◌+◌, ◌-◌, ◌*◌, ◌/◌, ◌%◌, ◌^◌, ◌<◌, ◌≤◌, List, [], ◌∷◌, ◌++◌, length, take, drop, reverse, get_or, refl, ap, sym, ◌∙◌, arith, ℤ, pos, negsuc, ◌≤ℤ◌, ◌-ℤ◌, lt-ltb, le-ltb, Bool, true, false, ltb, IsTrue, rules}
+use Rattle.std.proofs.lemmas.Grind.{common_steps}
+use Rattle.std.proofs.Math.Nat.{pow-suc, pow-le-pow_right, mod-eq_of_lt, div-div-eq-div-mul, one-le-pow}
 use Rattle.std.proofs.Math.Arith.{mod-mul}
-use Rattle.std.proofs.lemmas.List.{reverse-append, take_at, drop_at, take_more, append-nil, drop-drop}
-use Rattle.std.proofs.lemmas.Nat.{pow_pos, mod_below, shl_below, shl-shr}
-use Rattle.std.proofs.lemmas.Bool.Decides.{nat_tests}
+use Rattle.std.proofs.lemmas.List.{drop_at, take_more}
+use Rattle.std.proofs.lemmas.Nat.{pow_pos, shl_below, shl-shr}
 use Rattle.std.proofs.lemmas.Int.{ints}
 use Rattle.std.proofs.lemmas.Slice.{take-put_mid}
 use borrow.Rule.Slice.PartMut.{put_mid}
@@ -15,25 +15,18 @@ use Rattle.iio_scan_type.specs.declared.Sign.{Sign}
 use Rattle.iio_scan_type.specs.declared.Sign.TheVariants.{Signed, Unsigned}
 use Rattle.iio_scan_type.specs.declared.Endian.{Endian}
 use Rattle.iio_scan_type.specs.declared.Endian.TheVariants.{Big, Little}
-use Rattle.iio_scan_type.proofs.Numbers.{bounds_of, high_below, neg_is, storage_cases}
+use Rattle.iio_scan_type.proofs.Numbers.{bounds_of, high_below, neg_is}
 
 -- ---- a value of that many bits
 
 two_halves : (r : ℕ) → 1 ≤ r → 2 ^ r ≡ 2 ^ (r - 1) + 2 ^ (r - 1)
-two_halves zero h = absurd (omega arith)
-two_halves (suc r) h = let e : suc r - 1 ≡ r = omega arith in rw (pow-suc 2 r, e) (omega arith)
+two_halves r h = grind (arith, common_steps)
 
 pub value_in_range : (s : Sign) (r n : ℕ) → 1 ≤ r → n < 2 ^ r → (least_by s r ≤ℤ value_by s r n) × (value_by s r n ≤ℤ greatest_by s r)
-value_in_range Unsigned r n some h = (omega (arith, ints), omega (arith, ints))
-value_in_range Signed r n some h =
-    let half = two_halves r some in
-    let p = pow_pos (r - 1) in
-    let least = neg_is (2 ^ (r - 1)) p in
-    (rw least (grind (arith, ints, nat_tests)), grind (arith, ints, nat_tests))
+value_in_range s r n some h = grind (arith, common_steps)
 
 low_bits_lt : (r : ℕ) (v : ℤ) → low_bits r v < 2 ^ r
-low_bits_lt r (pos n) = mod_below n (2 ^ r) (pow_pos r)
-low_bits_lt r (negsuc n) = omega (arith, pow_pos r)
+low_bits_lt r v = search rules
 
 pub low_bits-value : (s : Sign) (r n : ℕ) → 1 ≤ r → n < 2 ^ r → low_bits r (value_by s r n) ≡ n
 low_bits-value Unsigned r n some h = mod-eq_of_lt h
@@ -65,8 +58,7 @@ value-low_bits Signed r (negsuc n) some low high =
 -- ---- numbers in bytes
 
 byte_at_is : (i n : ℕ) → byte_at i n ≡ n / 256 ^ i % 256
-byte_at_is zero n = ap (λ m. m % 256) (omega arith)
-byte_at_is (suc i) n = refl
+byte_at_is i n = search rules
 
 pub length-number_bytes : (e : Endian) (k n : ℕ) → length (number_bytes e k n) ≡ k
 length-number_bytes Little k n = low 0 k n
@@ -90,70 +82,50 @@ low_first_push i (suc k) n j e = ap (λ t. byte_at i n ∷ t) (low_first_push (s
 
 reverse-high_first : (k n : ℕ) → reverse (bytes_high_first k n) ≡ bytes_low_first 0 k n
 reverse-high_first zero n = refl
-reverse-high_first (suc k) n =
-    reverse-append (byte_at k n ∷ []) (bytes_high_first k n) ∙ ap (λ t. t ++ byte_at k n ∷ []) (reverse-high_first k n)
-    ∙ sym (low_first_push 0 k n k (omega arith))
+reverse-high_first (suc k) n = grind (arith, common_steps, byte_at, low_first_push, reverse-high_first k n)
 
 low_first_back : (k n : ℕ) → n < 256 ^ k → low_first_number (bytes_low_first 0 k n) ≡ n
 low_first_back k n h = low_first_bytes 0 k n ∙ ap (λ m. m % 256 ^ k) (let m : n / 1 ≡ n = omega arith in m) ∙ mod-eq_of_lt h
 
 -- a number is read back from as many bytes as it needs
 number_of-number_bytes : (e : Endian) (k n : ℕ) → n < 256 ^ k → number_of e (number_bytes e k n) ≡ n
-number_of-number_bytes Little k n h = low_first_back k n h
-number_of-number_bytes Big k n h = ap low_first_number (reverse-high_first k n) ∙ low_first_back k n h
+number_of-number_bytes e k n h = search (rules, low_first_back, reverse-high_first)
 
 -- ---- the elements of a channel
 
 channel_bytes-append : (f : Format) (xs ys : List ℤ) → channel_bytes f (xs ++ ys) ≡ channel_bytes f xs ++ channel_bytes f ys
 channel_bytes-append f [] ys = refl
-channel_bytes-append f (x ∷ xs) ys =
-    ap (λ t. element_bytes f x ++ t) (channel_bytes-append f xs ys) ∙ sym (append_assoc (element_bytes f x) (channel_bytes f xs) (channel_bytes f ys))
+channel_bytes-append f (x ∷ xs) ys = grind (arith, common_steps, channel_bytes-append f xs ys)
 
 -- another element
 pub channel_bytes-more : (f : Format) (xs : List ℤ) (k : ℕ) (v : ℤ) → k < length xs → v ≡ get_or xs k v
     → channel_bytes f (take (k + 1) xs) ≡ channel_bytes f (take k xs) ++ element_bytes f v
-channel_bytes-more f xs k v h e =
-    ap (channel_bytes f) (take_more xs k v h ∙ ap (λ x. take k xs ++ x ∷ []) (sym e)) ∙ channel_bytes-append f (take k xs) (v ∷ [])
-    ∙ ap (λ t. channel_bytes f (take k xs) ++ t) (append-nil (element_bytes f v))
+channel_bytes-more f xs k v h e = grind (arith, common_steps, take_more, channel_bytes-append)
 
 element_at-channel_bytes : (f : Format) (vs : List ℤ) (k : ℕ) (d : ℤ) → k < length vs → element_at f (channel_bytes f vs) k ≡ element_bytes f (get_or vs k d)
 element_at-channel_bytes f [] k d h = absurd (omega arith)
-element_at-channel_bytes f (v ∷ vs) zero d h =
-    rw zero-mul (take_at (element_bytes f v) (channel_bytes f vs) (element_size f) (length-number_bytes f.endian (element_size f) _))
+element_at-channel_bytes f (v ∷ vs) zero d h = grind (arith, common_steps, length-number_bytes)
 element_at-channel_bytes f (v ∷ vs) (suc k) d h =
     let n : ℕ = element_size f in
     let size : length (element_bytes f v) ≡ n = length-number_bytes f.endian n _ in
     let rest : drop n (element_bytes f v ++ channel_bytes f vs) ≡ channel_bytes f vs = drop_at (element_bytes f v) (channel_bytes f vs) n size in
-    let past : drop (suc k * n) (element_bytes f v ++ channel_bytes f vs) ≡ drop (k * n) (channel_bytes f vs) =
-    ap (λ m. drop m (element_bytes f v ++ channel_bytes f vs)) (let m : suc k * n ≡ n + k * n = grind arith in m)
-    ∙ sym (drop-drop (k * n) n (element_bytes f v ++ channel_bytes f vs)) ∙ ap (drop (k * n)) rest in
+    let past : drop (suc k * n) (element_bytes f v ++ channel_bytes f vs) ≡ drop (k * n) (channel_bytes f vs) = grind (arith, common_steps) in
     ap (take n) past ∙ element_at-channel_bytes f vs k d (omega arith)
 
 storage_bytes : (n : ℕ) → IsTrue (is_storage n) → 256 ^ (n / 8) ≡ 2 ^ n
-storage_bytes n h = by_cases (storage_cases n h)
-  where
-    P : ℕ → Type 0
-    P m = 256 ^ (m / 8) ≡ 2 ^ m
-
-    by_cases : (n ≡ 8) ⊎ ((n ≡ 16) ⊎ ((n ≡ 32) ⊎ (n ≡ 64))) → 256 ^ (n / 8) ≡ 2 ^ n
-    by_cases (inl e) = rw e refl
-    by_cases (inr (inl e)) = rw e refl
-    by_cases (inr (inr (inl e))) = rw e refl
-    by_cases (inr (inr (inr e))) = rw e refl
+storage_bytes n h = search rules
 
 -- the number of an element fits its storage
 pub number_below : (f : Format) (v : ℤ) → IsInProfile f → low_bits f.realbits v * 2 ^ f.shift < 2 ^ f.storagebits
 number_below f v p =
     let b = bounds_of f p in
-    let small : low_bits f.realbits v * 2 ^ f.shift < 2 ^ (f.realbits + f.shift) =
-    shl_below (low_bits f.realbits v) f.realbits f.shift (low_bits_lt f.realbits v) in
+    let small : low_bits f.realbits v * 2 ^ f.shift < 2 ^ (f.realbits + f.shift) = search (rules, shl_below, low_bits_lt) in
     let room : 2 ^ (f.realbits + f.shift) ≤ 2 ^ f.storagebits = pow-le-pow_right {n = 2} (omega arith) b.within in
     omega arith
 
 -- a value that the highest bits of a word say lies in the range
 pub extended_in_range : (f : Format) (m : ℕ) (v : ℤ) → IsInProfile f → m < 2 ^ 64 → value_by f.sign f.realbits (m / 2 ^ (64 - f.realbits)) ≡ v → IsInRange f v
-extended_in_range f m v p small is =
-    subst (λ z. IsInRange f z) is (value_in_range f.sign f.realbits (m / 2 ^ (64 - f.realbits)) (bounds_of f p).some (high_below f m p small))
+extended_in_range f m v p small is = search (rules, value_in_range, bounds_of, high_below)
 
 -- a value in range is read back
 pub value_at-channel_bytes : (f : Format) (vs : List ℤ) (k : ℕ) (d : ℤ) → IsInProfile f → k < length vs → IsInRange f (get_or vs k d)
@@ -175,17 +147,11 @@ value_at-channel_bytes f vs k d p h range =
 pub put_more : (f : Format) (vs : List ℤ) (k n : ℕ) (out part : List ℕ) (v : ℤ) → n ≡ element_size f → k < length vs → v ≡ get_or vs k v
     → (k + 1) * n ≤ length out → part ≡ element_bytes f v → take (k * n) out ≡ channel_bytes f (take k vs)
     → take ((k + 1) * n) (put_mid (k * n) ((k + 1) * n - k * n) out part) ≡ channel_bytes f (take (k + 1) vs)
-put_more f vs k n out part v size h e room w so_far =
-    let len : length part ≡ n = ap length w ∙ length-number_bytes f.endian (element_size f) _ ∙ sym size in
-    let next : (k + 1) * n ≡ k * n + n = grind arith in
-    take-put_mid (k * n) ((k + 1) * n - k * n) out part ((k + 1) * n) (omega arith) (omega arith)
-    ∙ ap (λ t. t ++ part) so_far ∙ ap (λ t. channel_bytes f (take k vs) ++ t) w ∙ sym (channel_bytes-more f vs k v h e)
+put_more f vs k n out part v size h e room w so_far = search (rules, length-number_bytes, take-put_mid, channel_bytes-more)
 
 -- what is read lies in the range, and its bits are those in the storage
 pub value_in-range : (f : Format) (n : ℕ) → IsInProfile f → IsInRange f (value_in f n)
-value_in-range f n p =
-    value_in_range f.sign f.realbits (n / 2 ^ f.shift % 2 ^ f.realbits) (bounds_of f p).some (mod_below (n / 2 ^ f.shift) (2 ^ f.realbits) (pow_pos f.realbits))
+value_in-range f n p = search (rules, value_in_range, bounds_of)
 
 pub low_bits-value_in : (f : Format) (n : ℕ) → IsInProfile f → low_bits f.realbits (value_in f n) ≡ n / 2 ^ f.shift % 2 ^ f.realbits
-low_bits-value_in f n p =
-    low_bits-value f.sign f.realbits (n / 2 ^ f.shift % 2 ^ f.realbits) (bounds_of f p).some (mod_below (n / 2 ^ f.shift) (2 ^ f.realbits) (pow_pos f.realbits))
+low_bits-value_in f n p = search (rules, low_bits-value, bounds_of)

@@ -31,12 +31,10 @@ low_first_number-append (x ∷ xs) ys = rw (low_first_number-append xs ys, pow-s
 
 -- eight bytes make std's number of a word
 pub low_first_word : (w : List ℕ) → length w ≡ 8 → from_le_bytes w64 w ≡ low_first_number w
-low_first_word (a ∷ b ∷ c ∷ d ∷ e ∷ f ∷ g ∷ h ∷ []) l = omega arith
-low_first_word w l = absurd (omega arith)
+low_first_word w l = grind (arith, common_steps)
 
 pub high_first_word : (w : List ℕ) → length w ≡ 8 → from_be_bytes w64 w ≡ low_first_number (reverse w)
-high_first_word (a ∷ b ∷ c ∷ d ∷ e ∷ f ∷ g ∷ h ∷ []) l = omega arith
-high_first_word w l = absurd (omega arith)
+high_first_word w l = grind (arith, common_steps)
 
 -- zero bytes above the others don't change the number
 zeros_above : (xs zs : List ℕ) → low_first_number zs ≡ 0 → low_first_number (xs ++ zs) ≡ low_first_number xs
@@ -50,8 +48,7 @@ zeros-drop (suc n) (suc k) = zeros-drop n k
 
 zeros-reverse : (k : ℕ) → low_first_number (reverse (replicate k 0)) ≡ 0
 zeros-reverse zero = refl
-zeros-reverse (suc k) =
-    ap low_first_number (reverse-append (0 ∷ []) (replicate k 0)) ∙ zeros_above (reverse (replicate k 0)) (0 ∷ []) refl ∙ zeros-reverse k
+zeros-reverse (suc k) = grind (arith, common_steps, zeros_above, zeros-reverse k)
 
 -- bytes below the zero bytes of a word, or above them, are the number
 pub low_first_read : (bs ys : List ℕ) → ys ≡ bs → length bs ≤ 8 → from_le_bytes w64 (ys ++ drop (length bs) (replicate 8 0)) ≡ low_first_number bs

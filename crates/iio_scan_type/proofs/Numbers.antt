@@ -1,18 +1,16 @@
 -- Numbers of that many bits, their shifts, and values in two's complement.
-use Rattle.std.proofs.Common.{add-zero, lt-ltb, le-ltb, ◌≡◌, ℕ, zero, suc, ◌+◌, ◌-◌, ◌*◌, ◌/◌, ◌%◌, ◌^◌, ◌<◌, ◌≤◌, refl, ap, sym, ◌∙◌, arith, ℤ, pos, negsuc, neg_ℤ, FitsSigned, ◌+ℤ◌, ◌≤ℤ◌, Bool, true, false, ltb, IsTrue, ◌⊎◌, inl, inr}
-use Rattle.std.proofs.Math.Nat.{mul_assoc, pow-le-pow_right}
+use Rattle.std.proofs.Common.{add-zero, ◌≡◌, ℕ, suc, ◌+◌, ◌-◌, ◌*◌, ◌/◌, ◌%◌, ◌^◌, ◌<◌, ◌≤◌, refl, ap, sym, ◌∙◌, arith, ℤ, pos, negsuc, neg_ℤ, FitsSigned, ◌+ℤ◌, ◌≤ℤ◌, IsTrue, ◌⊎◌, inl, inr, rules}
+use Rattle.std.proofs.Math.Nat.{mul_assoc}
 use Rattle.std.proofs.lemmas.Nat.{pow_pos, pow-add, shr_high, mod_low, shr_split, shl-shr, mod-pow-add, shr-shr, field_of, shr_below, le-div, mod_below}
 use Rattle.std.proofs.lemmas.Bool.Decides.{nat_tests}
-use Rattle.std.proofs.lemmas.Int.{ints, to_z_pos, to_z-of_z}
+use Rattle.std.proofs.lemmas.Int.{ints}
 use Rattle.std.specs.Int.{IsPowerOfTwo, w64, cast_unsigned, cast_signed, int_shr, saturate_signed, int_min, int_max}
 use Rattle.iio_scan_type.specs.Bytes.{low_bits, value_by}
 use Rattle.iio_scan_type.specs.Format.{Format, size_of, IsInProfile, IsInRange, max_realbits, is_storage, is_repeat, least_by, greatest_by, least_of, greatest_of, saturated}
-use Rattle.iio_scan_type.specs.declared.Sign.{Sign}
 use Rattle.iio_scan_type.specs.declared.Sign.TheVariants.{Signed, Unsigned}
 
 last_row : (x y : ℕ) → 0 < x → 0 < y → x * y - 1 ≡ (x - 1) * y + (y - 1)
-last_row zero y h k = absurd (omega arith)
-last_row (suc x) y h k = grind arith
+last_row x y h k = search rules
 
 -- all ones, shifted to the right
 pub shr_ones : (j k : ℕ) → (2 ^ (j + k) - 1) / 2 ^ k ≡ 2 ^ j - 1
@@ -58,56 +56,22 @@ lowered n r s a b w e f =
 
 -- a word's highest bits, lowered with its sign, are their value in two's complement
 signed_high : (m r a : ℕ) → 1 ≤ r → r + a ≡ 64 → m < 2 ^ 64 → int_shr (cast_signed w64 m) a ≡ value_by Signed r (m / 2 ^ a)
-signed_high m r a some e h = by_cases (ltb m (2 ^ 63)) refl
-  where
-    exponent : r - 1 + a ≡ 63
-    exponent = omega arith
-
-    half : 2 ^ 63 ≡ 2 ^ (r - 1) * 2 ^ a
-    half = ap (λ k. 2 ^ k) (let k : 63 ≡ r - 1 + a = omega arith in k) ∙ pow-add 2 (r - 1) a
-
-    by_cases : (b : Bool) → ltb m (2 ^ 63) ≡ b → int_shr (cast_signed w64 m) a ≡ value_by Signed r (m / 2 ^ a)
-    by_cases true t =
-        let small : m < 2 ^ 63 = grind (arith, nat_tests) in
-        let below : m / 2 ^ a < 2 ^ (r - 1) = shr_below m (r - 1) a (rw exponent small) in
-        rw (to_z_pos w64 m small, lt-ltb _ _ below) refl
-    by_cases false t =
-        let big : 2 ^ 63 ≤ m = grind (arith, nat_tests) in
-        let above : 2 ^ (r - 1) ≤ m / 2 ^ a = le-div (2 ^ (r - 1)) m (2 ^ a) (pow_pos a) (rw half at big) in
-        let below : m / 2 ^ a < 2 ^ r = shr_below m r a (rw e h) in
-        let turned : cast_signed w64 m ≡ negsuc (2 ^ 64 - suc m) = rw (le-ltb m (2 ^ 63) big) refl in
-        let parts : 2 ^ 64 - suc m ≡ (2 ^ r - 1 - m / 2 ^ a) * 2 ^ a + (2 ^ a - 1 - m % 2 ^ a) = (rw e at (complement r a m (rw e h))) in
-        let high : (2 ^ 64 - suc m) / 2 ^ a ≡ 2 ^ r - 1 - m / 2 ^ a =
-        rw parts (shr_high (2 ^ r - 1 - m / 2 ^ a) a (2 ^ a - 1 - m % 2 ^ a) (omega (arith, pow_pos a))) in
-        rw (turned, high, le-ltb _ _ above) (omega (arith, ints))
+signed_high m r a some e h = search (rules, value_by, shr_below, le-div, complement, shr_high)
 
 top_ones : (j a : ℕ) → j + a ≡ 63 → (2 ^ 63 - 1) / 2 ^ a ≡ 2 ^ j - 1
 top_ones j a e = let o = shr_ones j a in rw e at o
 
 pub neg_is : (x : ℕ) → 0 < x → neg_ℤ (pos x) ≡ negsuc (x - 1)
-neg_is zero h = absurd (omega arith)
-neg_is (suc x) h = ap negsuc (omega arith)
+neg_is x h = search rules
 
 pub least_signed : (r : ℕ) → 1 ≤ r → r ≤ 64 → cast_signed w64 (2 ^ 64 - suc ((2 ^ 63 - 1) / 2 ^ (64 - r))) ≡ least_by Signed r
-least_signed r some most =
-    let e = top_ones (r - 1) (64 - r) (omega arith) in
-    let p = pow_pos (r - 1) in
-    let q : 2 ^ (r - 1) ≤ 2 ^ 63 = pow-le-pow_right {n = 2} (omega arith) {i = r - 1} {j = 63} (omega arith) in
-    rw (e, neg_is (2 ^ (r - 1)) p) (to_z-of_z w64 (negsuc (2 ^ (r - 1) - 1)) (omega (arith, ints)))
+least_signed r some most = search (rules, top_ones, neg_is)
 
 pub greatest_signed : (r : ℕ) → 1 ≤ r → r ≤ 64 → cast_signed w64 ((2 ^ 63 - 1) / 2 ^ (64 - r)) ≡ greatest_by Signed r
-greatest_signed r some most =
-    let e = top_ones (r - 1) (64 - r) (omega arith) in
-    let p = pow_pos (r - 1) in
-    let q : 2 ^ (r - 1) ≤ 2 ^ 63 = pow-le-pow_right {n = 2} (omega arith) {i = r - 1} {j = 63} (omega arith) in
-    rw e (omega (arith, ints))
+greatest_signed r some most = search (rules, top_ones)
 
 pub greatest_unsigned : (r : ℕ) → r ≤ 63 → cast_signed w64 ((2 ^ 63 - 1) / 2 ^ (63 - r)) ≡ greatest_by Unsigned r
-greatest_unsigned r most =
-    let e = top_ones r (63 - r) (omega arith) in
-    let p = pow_pos r in
-    let q : 2 ^ r ≤ 2 ^ 63 = pow-le-pow_right {n = 2} (omega arith) {i = r} {j = 63} (omega arith) in
-    rw e (omega (arith, ints))
+greatest_unsigned r most = search (rules, top_ones)
 
 -- saturating a sum to its word first changes nothing
 pub saturate_first : (l g z : ℤ) → FitsSigned w64 l → FitsSigned w64 g → l ≤ℤ g → int_max l (int_min (saturate_signed w64 z) g) ≡ int_max l (int_min z g)
@@ -125,17 +89,7 @@ pub record Bounds (f : Format) : Type 0 where
   pub most : f.realbits ≤ max_realbits f.sign
 
 pub bounds_of : (f : Format) → IsInProfile f → Bounds f
-bounds_of f h =
-    record {
-      some = grind (arith, nat_tests);
-      within = grind (arith, nat_tests);
-      word = grind (arith, nat_tests);
-      storage = grind (arith, nat_tests);
-      repeat =
-          grind (arith, nat_tests);
-      few = grind (arith, nat_tests);
-      most = grind (arith, nat_tests);
-    }
+bounds_of f h = search rules
 
 -- the number of an element, computed by shifts of its word
 pub number_put : (f : Format) (v : ℤ) (u : ℕ) → IsInProfile f → FitsSigned w64 v → u ≡ cast_unsigned w64 v
@@ -181,23 +135,13 @@ number_field f n p =
 -- a word's highest bits, lowered with the sign or without one
 pub high_signed : (f : Format) (m : ℕ) → IsInProfile f → f.sign ≡ Signed → m < 2 ^ 64
     → int_shr (cast_signed w64 m) (64 - f.realbits) ≡ value_by f.sign f.realbits (m / 2 ^ (64 - f.realbits))
-high_signed f m p e small =
-    let b = bounds_of f p in
-    signed_high m f.realbits (64 - f.realbits) b.some (omega arith) small ∙ rw e refl
+high_signed f m p e small = search (rules, bounds_of, signed_high)
 
 pub high_below : (f : Format) (m : ℕ) → IsInProfile f → m < 2 ^ 64 → m / 2 ^ (64 - f.realbits) < 2 ^ f.realbits
-high_below f m p small =
-    let b = bounds_of f p in
-    let whole : f.realbits + (64 - f.realbits) ≡ 64 = omega arith in
-    shr_below m f.realbits (64 - f.realbits) (rw whole small)
+high_below f m p small = search (rules, bounds_of, shr_below)
 
 pub high_unsigned_small : (f : Format) (m : ℕ) → IsInProfile f → f.sign ≡ Unsigned → m < 2 ^ 64 → m / 2 ^ (64 - f.realbits) < 2 ^ 63
-high_unsigned_small f m p e small =
-    let b = bounds_of f p in
-    let most : f.realbits ≤ 63 = rw e at b.most in
-    let below = high_below f m p small in
-    let room : 2 ^ f.realbits ≤ 2 ^ 63 = pow-le-pow_right {n = 2} (omega arith) most in
-    omega arith
+high_unsigned_small f m p e small = search (rules, bounds_of, high_below)
 
 pub high_unsigned : (f : Format) (m : ℕ) → f.sign ≡ Unsigned → pos (m / 2 ^ (64 - f.realbits)) ≡ value_by f.sign f.realbits (m / 2 ^ (64 - f.realbits))
 high_unsigned f m e = rw e refl
@@ -205,18 +149,7 @@ high_unsigned f m e = rw e refl
 -- ---- sums
 
 ends_fit : (f : Format) → IsInProfile f → FitsSigned w64 (least_of f) × FitsSigned w64 (greatest_of f) × (least_of f ≤ℤ greatest_of f)
-ends_fit f p = by_sign f.sign f.realbits (bounds_of f p).some (bounds_of f p).most
-  where
-    by_sign : (s : Sign) (r : ℕ) → 1 ≤ r → r ≤ max_realbits s → FitsSigned w64 (least_by s r) × FitsSigned w64 (greatest_by s r)
-        × (least_by s r ≤ℤ greatest_by s r)
-    by_sign Signed r some most =
-        let p = pow_pos (r - 1) in
-        let q : 2 ^ (r - 1) ≤ 2 ^ 63 = pow-le-pow_right {n = 2} (omega arith) {i = r - 1} {j = 63} (omega arith) in
-        rw (neg_is (2 ^ (r - 1)) p) (omega (arith, ints), omega (arith, ints), omega (arith, ints))
-    by_sign Unsigned r some most =
-        let p = pow_pos r in
-        let q : 2 ^ r ≤ 2 ^ 63 = pow-le-pow_right {n = 2} (omega arith) {i = r} {j = 63} most in
-        (omega (arith, ints), omega (arith, ints), omega (arith, ints))
+ends_fit f p = search rules
 
 -- saturating a sum to its word first changes nothing
 pub saturated_first : (f : Format) (z : ℤ) → IsInProfile f → saturated f (saturate_signed w64 z) ≡ saturated f z

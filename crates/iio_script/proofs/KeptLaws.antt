@@ -15,7 +15,7 @@ use Rattle.iio_system.specs.declared.system.System.{System}
 use Rattle.iio_worlds.specs.KeptOn.{KeptGoesOn}
 use Rattle.iio_worlds.specs.Solo.{kept_of}
 use Rattle.iio_script.specs.declared.opening.Opening.TheVariants as read
-use Rattle.iio_script.specs.Keeps.{Excerpt, KeepsOn, excerpt_of, kept_at_end, kept_of_lines}
+use Rattle.iio_script.specs.Keeps.{Excerpt, KeepsOn, excerpt_of, kept_at_end, kept_of_lines, watch_of}
 use Rattle.iio_script.specs.LineReader.{Follows, Hand, HasLine, IsCut, IsDone, IsHand, IsLong, TakesBlocks, line_of}
 use Rattle.iio_script.specs.Plays.{progress_of, with_line}
 use Rattle.iio_script.specs.Told.{EndsAlone, EndsAt, RefusesAt}
@@ -27,11 +27,11 @@ module _ {X : Type 0} {V : X → Type 0} (driver : Plug X V → Driver) where
   -- the lines `given` were played, and this was kept of them; the reader has gone on over them
   pub record KeptSoFar (s : Setup) (a : List ℕ) (x : System X V) (excerpt : Excerpt) (first n : ℕ) (h h' : Hand) (left left' : Option (List ℕ)) : Type 0 where
     pub given : List (List ℕ)
-    pub keeps : KeepsOn driver s a x excerpt (progress_of first n given)
+    pub keeps : KeepsOn driver (watch_of s a) x excerpt (progress_of first n given)
     pub follows : (input : List ℕ) (front : List (List ℕ)) → Follows input front h left → Follows input (front ++ given) h' left'
 
   pub so_far_first : (s : Setup) (a : List ℕ) (x : System X V) (text : List ℕ) (first : ℕ) (h : Hand) (left : Option (List ℕ)) → text ≡ []
-      → KeepsOn driver s a x (excerpt_of None []) (progress_of first first [])
+      → KeepsOn driver (watch_of s a) x (excerpt_of None []) (progress_of first first [])
       → KeptSoFar s a x (excerpt_of None text) first first h h left left
   so_far_first s a x text first h left empty keeps = search rules
 
@@ -46,7 +46,7 @@ module _ {X : Type 0} {V : X → Type 0} (driver : Plug X V → Driver) where
       (left left' : Option (List ℕ))
       → ((input : List ℕ) (front : List (List ℕ)) (l : Option (List ℕ)) → Follows input front h1 l → Follows input (front ++ line_of h1 ∷ []) h2 l)
       → line ≡ line_of h1
-      → (so : KeptSoFar s a x excerpt first n h h1 left left') → KeepsOn driver s a x' excerpt' (with_line (progress_of first n so.given) line)
+      → (so : KeptSoFar s a x excerpt first n h h1 left left') → KeepsOn driver (watch_of s a) x' excerpt' (with_line (progress_of first n so.given) line)
       → KeptSoFar s a x' excerpt' first (n + 1) h h2 left left'
   so_far_played s a x x' excerpt excerpt' line first n h h1 h2 left left' passes same so keeps = grind (arith, common_steps)
 

@@ -13,8 +13,6 @@ use Rattle.iio_script.proofs.AnswerLaws.{answers_more}
 use Rattle.iio_script.proofs.EndLaws.{sends_more}
 use Rattle.iio_script.proofs.FollowLaws.{takes_at_most}
 
--- ---- front parts
-
 -- ---- the end of a script
 
 -- all that was kept was sent

@@ -49,27 +49,37 @@ pub record Excerpt : Type 0 where
 abbrev pub excerpt_of : (offence : Option ℕ) (text : List ℕ) → Excerpt
 excerpt_of offence text = record { offence = offence; text = text }
 
+-- whose lines are kept: those of the connection of that name, at the system of a description
+pub record Watch : Type 0 where
+  pub setup : Setup
+  pub name : List ℕ
+
+abbrev pub watch_of : Setup → (name : List ℕ) → Watch
+watch_of s name = record { setup = s; name = name }
+
 module _ {X : Type 0} {V : X → Type 0} (driver : Plug X V → Driver) where
   -- the lines were played, and that was kept of them. This holds whatever lines follow
-  pub record KeepsOn (s : Setup) (a : List ℕ) (x : System X V) (excerpt : Excerpt) (run : Progress) : Type 0 where
+  pub record KeepsOn (w : Watch) (x : System X V) (excerpt : Excerpt) (run : Progress) : Type 0 where
     pub done : List Event
     pub names : List (List ℕ)
-    pub stands : StandsFor driver s done x
+    pub stands : StandsFor driver w.setup done x
     pub same : AreSame names (names_by x)
-    pub neutral : excerpt.offence ≡ None → only_bystanders s a done ≡ true
+    pub neutral : excerpt.offence ≡ None → only_bystanders w.setup w.name done ≡ true
     pub kept : (ending : Ending) (lines : List (List ℕ))
-        → kept_on s a excerpt.offence excerpt.text done (numbered_from s.desc names run.next lines) (script_from s.desc ending names run.next lines).ending
-        ≡ kept_of_lines s a ending run.first (run.given ++ lines)
+        → kept_on w.setup w.name excerpt.offence excerpt.text done (numbered_from w.setup.desc names run.next lines)
+        (script_from w.setup.desc ending names run.next lines).ending
+        ≡ kept_of_lines w.setup w.name ending run.first (run.given ++ lines)
 
   -- the step of that line was performed
-  pub record KeepsStep (s : Setup) (a : List ℕ) (h : List Event) (t : Numbered) (old new : Excerpt) (x' : System X V) : Type 0 where
-    pub stands : StandsFor driver s (with_step s h t.step) x'
-    pub neutral : new.offence ≡ None → only_bystanders s a (with_step s h t.step) ≡ true
+  pub record KeepsStep (w : Watch) (h : List Event) (t : Numbered) (old new : Excerpt) (x' : System X V) : Type 0 where
+    pub stands : StandsFor driver w.setup (with_step w.setup h t.step) x'
+    pub neutral : new.offence ≡ None → only_bystanders w.setup w.name (with_step w.setup h t.step) ≡ true
     pub kept : (ts : List Numbered) (ending : Ending)
-        → kept_on s a old.offence old.text h (t ∷ ts) ending ≡ kept_on s a new.offence new.text (with_step s h t.step) ts ending
+        → kept_on w.setup w.name old.offence old.text h (t ∷ ts) ending
+        ≡ kept_on w.setup w.name new.offence new.text (with_step w.setup h t.step) ts ending
 
   -- a line was played; or it is refused, and then the input is refused there
-  abbrev pub KeepsLine : Setup → (a : List ℕ) → System X V → Excerpt → Progress → (line : List ℕ) → Option Why → Type 0
-  KeepsLine s a x excerpt run line None = KeepsOn s a x excerpt (with_line run line)
-  KeepsLine s a x excerpt run line (Some why) =
-      (ending : Ending) (lines : List (List ℕ)) → kept_of_lines s a ending run.first (run.given ++ line ∷ lines) ≡ Err (Refused run.next why)
+  abbrev pub KeepsLine : Watch → System X V → Excerpt → Progress → (line : List ℕ) → Option Why → Type 0
+  KeepsLine w x excerpt run line None = KeepsOn w x excerpt (with_line run line)
+  KeepsLine w x excerpt run line (Some why) =
+      (ending : Ending) (lines : List (List ℕ)) → kept_of_lines w.setup w.name ending run.first (run.given ++ line ∷ lines) ≡ Err (Refused run.next why)

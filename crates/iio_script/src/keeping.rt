@@ -17,7 +17,7 @@ ghost use Rattle.iio_system.specs.Step.{IsValid, cost_of, step_view};
 ghost use Rattle.iio_worlds.specs.Bystanders.{only_bystanders};
 ghost use Rattle.iio_worlds.specs.Solo.{kept_of};
 ghost use Rattle.iio_worlds.specs.Worlds.{is_others};
-ghost use Rattle.iio_script.specs.Keeps.{KeepsLine, KeepsOn, KeepsStep, excerpt_of, kept_at_end, kept_of_lines, keeping_view};
+ghost use Rattle.iio_script.specs.Keeps.{KeepsLine, KeepsOn, KeepsStep, excerpt_of, kept_at_end, kept_of_lines, keeping_view, watch_of};
 ghost use Rattle.iio_script.specs.LineReader.{Follows, IsHand};
 ghost use Rattle.iio_script.specs.Outline.{FindsSame};
 ghost use Rattle.iio_script.specs.Plays.{progress_of};
@@ -103,8 +103,8 @@ fn keep_step(
     ensures used { system.new.used ≡ system.old.used + cost_of step.now }
     ensures keeps { OnOk result ((s : Setup) (h : List Event) → StandsFor ⟦<Plug as Sensor>⟧.driver s h system.old
         → (offence.old ≡ None → only_bystanders s watched.now h ≡ true)
-        → KeepsStep ⟦<Plug as Sensor>⟧.driver s watched.now h (record { number = number; step = step_view step.now }) (excerpt_of offence.old text.old.items)
-        (excerpt_of offence.new text.new.items) system.new) }
+        → KeepsStep ⟦<Plug as Sensor>⟧.driver (watch_of s watched.now) h (record { number = number; step = step_view step.now })
+        (excerpt_of offence.old text.old.items) (excerpt_of offence.new text.new.items) system.new) }
 {
     solo_law();
     if offence.is_some() {
@@ -142,8 +142,9 @@ fn keep_line(
     ensures front { front_of system.new.bench ≡ front_of system.old.bench }
     ensures used { IfOk result (λ _. system.new.used ≤ system.old.used + 1048577) }
     ensures keeps { IfOk result (λ why. (s : Setup) (first : ℕ) (given : List (List ℕ)) → FindsSame names.now s.desc
-        → KeepsOn ⟦<Plug as Sensor>⟧.driver s watched.now system.old (excerpt_of offence.old text.old.items) (progress_of first number given)
-        → KeepsLine ⟦<Plug as Sensor>⟧.driver s watched.now system.new (excerpt_of offence.new text.new.items) (progress_of first number given) line.now why) }
+        → KeepsOn ⟦<Plug as Sensor>⟧.driver (watch_of s watched.now) system.old (excerpt_of offence.old text.old.items) (progress_of first number given)
+        → KeepsLine ⟦<Plug as Sensor>⟧.driver (watch_of s watched.now) system.new (excerpt_of offence.new text.new.items) (progress_of first number given)
+        line.now why) }
 {
     let said = match read_step_into(alloc, room, names, line) {
         Ok(said) => said,

@@ -1,9 +1,9 @@
 -- What a trigger's calls make of its rows, by where the device's row is.
-use Rattle.std.proofs.Common.{◌≡◌, ℕ, ◌<◌, true, false, cond, eqb, List, length, get_or, Some, None, refl, sym, ap, ◌∙◌, subst, append-nil, arith}
+use Rattle.std.proofs.Common.{◌≡◌, ℕ, ◌<◌, true, false, cond, eqb, List, length, get_or, Some, None, refl, sym, ap, ◌∙◌, subst, arith}
+use Rattle.std.proofs.lemmas.Grind.{common_steps}
 use Rattle.std.specs.List.{Contains, insert, remove, refill}
 use Rattle.std.proofs.Math.ListN.{set}
 use Rattle.std.proofs.lemmas.Bool.{eq-eqb, ne_eqb}
-use Rattle.std.proofs.lemmas.List.{get_or_default, set-get_or, length-set, take_all, drop_all}
 use Rattle.iio_trigger.specs.Rank.{rank, IsOther, AllOther, StandsAt, WouldStandAt}
 use Rattle.iio_trigger.specs.Trigger.{InOrder, place_dev, entry_dev, Handed, holds_place, with_place, without_place, is_waiting, due_of, with_in_hand, without_entry}
 use Rattle.iio_trigger.specs.declared.rows.Place.{Place}
@@ -12,9 +12,7 @@ use Rattle.iio_trigger.proofs.Ranks.{InOrder-with_place, InOrder-set, map-others
 
 -- one row is written through a loan of all
 pub refill-set : {X : Type 0} (xs ys : List X) (i : ℕ) (y : X) → ys ≡ xs → refill (length xs) xs (set ys i y) ≡ set xs i y
-refill-set xs ys i y e =
-    rw (e, length-set xs i y, drop_all (length xs) xs (omega arith), append-nil)
-    (take_all (length xs) (set xs i y) (omega (arith, length-set xs i y)))
+refill-set xs ys i y e = grind (arith, common_steps)
 
 -- a row for reads past the end
 abbrev no_place : Place
@@ -114,10 +112,7 @@ module _ (dev : ℕ) (es : List Entry) where
           rw (map-at entry_dev dev (taken_up dev) 0 es d o ranked_within ranked_same (taken_up-other dev), s.ranked, eq-eqb (get_or es i d).dev dev (s.same d))
 
       pub with_in_hand-same : (get_or es i d).in_hand ≡ true → with_in_hand dev es ≡ es
-      with_in_hand-same busy =
-          let e = get_or es i d in
-          let kept : record e { in_hand = true } ≡ e = ap (λ b. record e { in_hand = b }) (sym busy) in
-          with_in_hand-set ∙ ap (λ x. set es i x) kept ∙ set-get_or es i d
+      with_in_hand-same busy = grind (arith, common_steps, with_in_hand-set)
 
       pub without_entry-remove : without_entry dev es ≡ remove es i
       without_entry-remove = filter-at entry_dev dev 0 es d o ranked_within ranked_same ∙ ap (λ k. remove es k) s.ranked
@@ -127,6 +122,4 @@ module _ (dev : ℕ) (es : List Entry) where
 
       -- the only entry of the device is the one that is there
       pub Contains-at : (e : Entry) → e.dev ≡ dev → Contains es e → get_or es i d ≡ e
-      Contains-at e is at =
-          let here = at_rank entry_dev dev 0 es at.0 e o at.1 (ap entry_dev at.2 ∙ is) ∙ s.ranked in
-          get_or_default es i d e s.within ∙ ap (λ k. get_or es k e) (sym here) ∙ at.2
+      Contains-at e is at = grind (arith, common_steps, at_rank)

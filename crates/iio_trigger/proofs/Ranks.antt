@@ -1,8 +1,8 @@
 -- A device among rows in the order of devices: its row is at its rank, if there is one, and nowhere else.
-use Rattle.std.proofs.Common.{◌≡◌, ℕ, zero, suc, ◌+◌, ◌≤◌, ◌<◌, Bool, true, false, not, cond, eqb, ltb, List, [], ◌∷◌, map, filter, length, get_or, Some, None, refl, sym, ap, ◌∙◌, ⊎_elim, arith}
+use Rattle.std.proofs.Common.{◌≡◌, ℕ, zero, suc, ◌+◌, ◌≤◌, ◌<◌, Bool, true, false, not, cond, eqb, List, [], ◌∷◌, map, filter, length, get_or, Some, None, refl, sym, ap, ◌∙◌, ⊎_elim, arith, rules}
+use Rattle.std.proofs.lemmas.Grind.{common_steps}
 use Rattle.std.specs.List.{list_any, find, insert, remove}
 use Rattle.std.proofs.Math.ListN.{set}
-use Rattle.std.proofs.lemmas.List.{get_or_default}
 use Rattle.std.proofs.lemmas.List.Sums.{prefix_len-le-length}
 use Rattle.std.proofs.lemmas.Bool.{cases_lt, lt-ltb, le-ltb, eq-eqb, ne_eqb}
 use Rattle.iio_trigger.specs.Rank.{rank, IsOther, AllOther, StandsAt, WouldStandAt}
@@ -69,12 +69,7 @@ module _ {X : Type 0} (dev_of : X → ℕ) where
     pub any-at : (xs : List X) (d : X) → rank dev_of dev xs < length xs → dev_of (get_or xs (rank dev_of dev xs) d) ≡ dev
         → list_any (λ x. eqb (dev_of x) dev) xs ≡ true
     any-at [] d within same = absurd (omega (arith, within))
-    any-at (x ∷ xs) d within same =
-        ⊎_elim
-        (λ lt. let e = rank-below x xs lt in let same' = rw e at same in
-        rw (ne_eqb (dev_of x) dev (λ q. omega (arith, q, lt))) (any-at xs d (omega (arith, e, within)) same'))
-        (λ ge. let same' = rw (rank-from x xs ge) at same in rw (eq-eqb (dev_of x) dev same'))
-        (cases_lt (dev_of x) dev)
+    any-at (x ∷ xs) d within same = grind (arith, common_steps)
 
     pub map-at : (f : X → X) (low : ℕ) (xs : List X) (d : X) → InOrder dev_of low xs → rank dev_of dev xs < length xs
         → dev_of (get_or xs (rank dev_of dev xs) d) ≡ dev → ((x : X) → IsOther dev_of dev x → f x ≡ x)
@@ -116,19 +111,11 @@ module _ {X : Type 0} (dev_of : X → ℕ) where
 module _ {X : Type 0} (dev_of : X → ℕ) (dev i : ℕ) (xs : List X) (d : X) where
   -- what a look at the rank tells
   pub stands : i ≡ rank dev_of dev xs → i < length xs → dev_of (get_or xs i d) ≡ dev → StandsAt dev_of dev xs i
-  stands is within same = record {
-    within = within;
-    ranked = sym is;
-    same = λ d'. ap dev_of (get_or_default xs i d' d within) ∙ same;
-  }
+  stands is within same = grind (arith, common_steps)
 
   pub would_stand : (low : ℕ) → InOrder dev_of low xs → i ≡ rank dev_of dev xs
       → (i < length xs → IsOther dev_of dev (get_or xs i d)) → WouldStandAt dev_of dev xs i
-  would_stand low o is free = record {
-    ranked = sym is;
-    within = rw is (prefix_len-le-length (λ x. ltb (dev_of x) dev) xs);
-    others = all_others dev_of dev low xs d o (rw is at free);
-  }
+  would_stand low o is free = search (rules, prefix_len-le-length, all_others)
 
 -- the place that a device holds gets the new number
 pub with_place-at : (dev n : ℕ) (ps : List Place) (d : Place) → rank place_dev dev ps < length ps
@@ -185,7 +172,4 @@ module _ {X : Type 0} (dev_of : X → ℕ) (dev : ℕ) where
   at_rank low [] k d o within same = absurd (omega (arith, within))
   at_rank low (x ∷ xs) zero d o within same = sym (rank-from dev_of dev x xs (omega (arith, same)))
   at_rank low (x ∷ xs) (suc k) d o within same =
-      ⊎_elim
-      (λ lt. ap suc (at_rank (dev_of x + 1) xs k d o.1 (omega (arith, within)) same) ∙ sym (rank-below dev_of dev x xs lt))
-      (λ ge. absurd (IsOther-get_or xs k d (others_later dev_of dev (dev_of x + 1) xs o.1 (omega (arith, ge))) (omega (arith, within)) same))
-      (cases_lt (dev_of x) dev)
+      search (rules, rank-below, IsOther-get_or, others_later, at_rank (dev_of x + 1) xs k d o.1 (omega (arith, within)) same)

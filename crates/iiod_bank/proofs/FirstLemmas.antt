@@ -8,7 +8,7 @@ use Rattle.iio_desc.specs.Description.{DeviceHead, DeviceRecord, input_head, no_
 use Rattle.iio_desc.specs.declared.limits.TheConstants.{MAX_TRIGGERS}
 use Rattle.iio_kfifo.specs.declared.tail.Tail.{Ghosts}
 use Rattle.iio_trigger.specs.Trigger.{State}
-use Rattle.iio_device.specs.Device.{DeviceView, new_view}
+use Rattle.iio_device.specs.Device.{DeviceView, new_view, view_of}
 use Rattle.iio_desc.specs.Description.{Description}
 use Rattle.iio_desc.specs.WellFormed.{IsWellFormed}
 use Rattle.iio_desc.specs.declared.description.TriggerDesc.{TriggerDesc}
@@ -21,7 +21,6 @@ use Rattle.iio_base.specs.declared.Mem.{Mem}
 use Rattle.iiod_bank.specs.declared.first.Parts.{Parts}
 use Rattle.iiod_bank.specs.declared.front.HubFront.{HubFront}
 use Rattle.iiod_bank.specs.FrontOf.{front_of, served_front}
-use Rattle.iiod_bank.specs.Lent.{lent_by}
 use Rattle.iiod_bank.specs.Own.{Fits, FitsAt}
 use Rattle.iiod_bank.proofs.OwnLaws.{map_at}
 use Rattle.iio_probe.specs.Devices.{first_devices, first_driver}
@@ -64,17 +63,17 @@ shape_first desc i x e = ap (λ (o : Option DeviceHead). option_map_or (λ (d : 
 module _ {X : Type 0} {V : X → Type 0} {g : Ghosts WriterEnd} where
   pub first_fits : (drv : Plug X V → Driver) (front : HubFront) (devices : List (Fitted (IioDev WriterEnd g) X V)) (drivers : List Driver) (desc : Description)
       (many : ℕ)
-      → map (λ d. lent_by drv d) devices ≡ first_devices drivers 0 desc.devices → front_of front ≡ served_front desc → many ≡ MAX_TRIGGERS
+      → map (λ d. view_of drv d) devices ≡ first_devices drivers 0 desc.devices → front_of front ≡ served_front desc → many ≡ MAX_TRIGGERS
       → Fits front devices many
   first_fits drv front devices drivers desc many views fronts sixteen = record {
     many = search (rules, length_map_is, length_first);
     each =
-        λ i d at. by i d (first_at drivers 0 i desc.devices (lent_by drv d)
-        (ap (λ (vs : List (DeviceView WriterEnd)). slice_get vs i) (sym views) ∙ map_at (λ d. lent_by drv d) devices i d at));
+        λ i d at. by i d (first_at drivers 0 i desc.devices (view_of drv d)
+        (ap (λ (vs : List (DeviceView WriterEnd)). slice_get vs i) (sym views) ∙ map_at (λ d. view_of drv d) devices i d at));
     sixteen = sixteen;
   }
     where
-      by : (i : ℕ) (d : Fitted (IioDev WriterEnd g) X V) → FirstAt drivers 0 i desc.devices (lent_by drv d) → FitsAt front i d
+      by : (i : ℕ) (d : Fitted (IioDev WriterEnd g) X V) → FirstAt drivers 0 i desc.devices (view_of drv d) → FitsAt front i d
       by i d r = search (rules, shape_first)
 
 -- one more trigger, after that many
@@ -90,7 +89,7 @@ sixteen_first described states few is = grind (arith, common_steps)
 -- if the parts were made
 module _ {X : Type 0} {V : X → Type 0} where
   pub parts_fit : (drv : Plug X V → Driver) (drivers : List Driver) (desc : Description) (n : ℕ) (r : Result (Parts X V) Mem) → IsWellFormed n desc
-      → IfOk r (λ p. front_of p.front ≡ served_front desc) → IfOk r (λ p. map (λ d. lent_by drv d) p.devices.items ≡ first_devices drivers 0 desc.devices)
+      → IfOk r (λ p. front_of p.front ≡ served_front desc) → IfOk r (λ p. map (λ d. view_of drv d) p.devices.items ≡ first_devices drivers 0 desc.devices)
       → IfOk r (λ p. p.triggers.items ≡ first_triggers desc.triggers)
       → IfOk r (λ p. Fits p.front p.devices.items (length p.triggers.items))
   parts_fit drv drivers desc n (Err e) sound fronts views triggers = tt

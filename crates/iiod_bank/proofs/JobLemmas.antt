@@ -8,13 +8,14 @@ use Rattle.iio_attr.specs.declared.values.Value.{Value}
 use Rattle.iio_trigger.specs.Trigger.{State}
 use Rattle.iio_device.specs.declared.roster.JoinFault.{JoinFault}
 use Rattle.iio_device.specs.declared.roster.JoinFault.TheVariants as fault
+use Rattle.iio_device.specs.Ends.{writer_end}
 use Rattle.iio_device.specs.Device.{DeviceView, LeavesDevice, after_trigger, is_idle, join_faults}
 use Rattle.iio_device.specs.Site.{Site}
 use Rattle.iiod_commands.specs.declared.iio.No.{No}
 use Rattle.iiod_commands.specs.No.{no_of}
 use Rattle.iio_kfifo.specs.Ends.{WriterEnd}
-use Rattle.iiod_bank.specs.Jobs.{Buffer, OpenMakes, ReadMakes, after_value, count_lost}
-use Rattle.iiod_bank.specs.Lent.{Kept}
+use Rattle.iiod_bank.specs.Jobs.{Buffer, OpenMakes, ReadMakes, after_value}
+use Rattle.iiod_bank.specs.Kept.{Kept}
 
 pub kept_along : (a x b : DeviceView WriterEnd) → b ≡ x → Kept a x → Kept a b
 kept_along a x b e k = rw e k
@@ -29,7 +30,7 @@ kept_site site c a b e = search rules
 pub kept_retriggered : (trigger : Option ℕ) (a b : DeviceView WriterEnd) → b ≡ after_trigger trigger a → Kept a b
 kept_retriggered trigger a b e = kept_site (record a.site { trigger = trigger }) (is_idle a) a b e
 
-pub kept_left : (number : ℕ) (o : Option WriterEnd) (a b : DeviceView WriterEnd) (s t : State) → LeavesDevice count_lost number o a b s t → Kept a b
+pub kept_left : (number : ℕ) (o : Option WriterEnd) (a b : DeviceView WriterEnd) (s t : State) → LeavesDevice writer_end number o a b s t → Kept a b
 kept_left number o a b s t left = search rules
 
 -- ---- refusals of OPEN

@@ -7,12 +7,12 @@ use Rattle.iio_sensor.specs.Driver.{Driver}
 use Rattle.iio_device.specs.declared.device.Fitted.{Fitted}
 use Rattle.iio_device.specs.declared.iio_dev.IioDev.{IioDev}
 use Rattle.iio_device.specs.declared.plug.Plug.{Plug}
-use Rattle.iio_device.specs.Device.{DeviceView}
+use Rattle.iio_device.specs.Device.{DeviceView, view_of}
 use Rattle.iio_core.specs.Front.{shape_at}
 use Rattle.iio_kfifo.specs.Ends.{WriterEnd}
 use Rattle.iiod_bank.specs.declared.front.HubFront.{HubFront}
 use Rattle.iiod_bank.specs.FrontOf.{front_of, face_of}
-use Rattle.iiod_bank.specs.Lent.{Kept, lent_by}
+use Rattle.iiod_bank.specs.Kept.{Kept}
 use Rattle.iiod_bank.specs.Own.{Fits}
 use Rattle.iiod_bank.specs.Told.{Told, Ran, RanAt, with_trigger}
 
@@ -63,7 +63,7 @@ module _ {X : Type 0} {V : X → Type 0} {g : Ghosts WriterEnd} where
 
   pub fits_after : (drv : Plug X V → Driver) (f : HubFront) (devices : List (Fitted (IioDev WriterEnd g) X V)) (n n' i : ℕ)
       (s t : (Fitted (IioDev WriterEnd g) X V)) → Fits f devices n → n' ≡ n → slice_get devices i ≡ Some s
-      → Kept (lent_by drv s) (lent_by drv t) → Fits f (set devices i t) n'
+      → Kept (view_of drv s) (view_of drv t) → Fits f (set devices i t) n'
   fits_after drv f devices n n' i s t fits e at kept = search (rules, length_after, after_set)
 
   -- a job's condition at a device that is there
@@ -74,37 +74,37 @@ module _ {X : Type 0} {V : X → Type 0} {g : Ghosts WriterEnd} where
   module _ {O : Type 0} (makes : DeviceView WriterEnd → Option State → O → DeviceView WriterEnd → Option State → Type 0) where
     pub ran_alone : (drv : Plug X V → Driver) (devices : List (Fitted (IioDev WriterEnd g) X V)) (triggers : List State) (clock : ℤ) (i : ℕ)
         (s t : (Fitted (IioDev WriterEnd g) X V)) (o : O) → slice_get devices i ≡ Some s
-        → s.core.trigger ≡ None → makes (lent_by drv s) None o (lent_by drv t) None
-        → (c : Told) × (Some (record { devices = map (λ x. lent_by drv x) (set devices i t); triggers = triggers; clock = clock }) ≡ Some c)
-        × Ran makes i (record { devices = map (λ x. lent_by drv x) devices; triggers = triggers; clock = clock }) o c
+        → s.core.trigger ≡ None → makes (view_of drv s) None o (view_of drv t) None
+        → (c : Told) × (Some (record { devices = map (λ x. view_of drv x) (set devices i t); triggers = triggers; clock = clock }) ≡ Some c)
+        × Ran makes i (record { devices = map (λ x. view_of drv x) devices; triggers = triggers; clock = clock }) o c
     ran_alone drv devices triggers clock i s t o at none m = (
       _,
       refl,
       record {
-        old = lent_by drv s;
-        at = map_at (λ x. lent_by drv x) devices i s at;
-        new = lent_by drv t;
+        old = view_of drv s;
+        at = map_at (λ x. view_of drv x) devices i s at;
+        new = view_of drv t;
         t = None;
         made = search rules;
-        after = rw (ap (λ (z : Option ℕ). with_trigger triggers z None) none, map_after (λ x. lent_by drv x) devices i t) refl;
+        after = rw (ap (λ (z : Option ℕ). with_trigger triggers z None) none, map_after (λ x. view_of drv x) devices i t) refl;
       },
     )
 
     pub ran_paired : (drv : Plug X V → Driver) (devices : List (Fitted (IioDev WriterEnd g) X V)) (triggers : List State) (clock : ℤ) (i n : ℕ)
         (s t : (Fitted (IioDev WriterEnd g) X V)) (u v : State) (o : O) → slice_get devices i ≡ Some s
-        → s.core.trigger ≡ Some n → slice_get triggers n ≡ Some u → makes (lent_by drv s) (Some u) o (lent_by drv t) (Some v)
-        → (c : Told) × (Some (record { devices = map (λ x. lent_by drv x) (set devices i t); triggers = set triggers n v; clock = clock }) ≡ Some c)
-        × Ran makes i (record { devices = map (λ x. lent_by drv x) devices; triggers = triggers; clock = clock }) o c
+        → s.core.trigger ≡ Some n → slice_get triggers n ≡ Some u → makes (view_of drv s) (Some u) o (view_of drv t) (Some v)
+        → (c : Told) × (Some (record { devices = map (λ x. view_of drv x) (set devices i t); triggers = set triggers n v; clock = clock }) ≡ Some c)
+        × Ran makes i (record { devices = map (λ x. view_of drv x) devices; triggers = triggers; clock = clock }) o c
     ran_paired drv devices triggers clock i n s t u v o at some there m = (
       _,
       refl,
       record {
-        old = lent_by drv s;
-        at = map_at (λ x. lent_by drv x) devices i s at;
-        new = lent_by drv t;
+        old = view_of drv s;
+        at = map_at (λ x. view_of drv x) devices i s at;
+        new = view_of drv t;
         t = Some v;
         made = search rules;
-        after = rw (ap (λ (z : Option ℕ). with_trigger triggers z (Some v)) some, map_after (λ x. lent_by drv x) devices i t) refl;
+        after = rw (ap (λ (z : Option ℕ). with_trigger triggers z (Some v)) some, map_after (λ x. view_of drv x) devices i t) refl;
       },
     )
 

@@ -4,11 +4,12 @@ use Rattle.std.specs.Prelude.{option_map}
 use Rattle.iio_trigger.specs.Trigger.{State}
 use Rattle.iio_device.specs.declared.membership.Member.{Member}
 use Rattle.iio_device.specs.declared.membership.Membership.{Membership}
+use Rattle.iio_device.specs.Ends.{writer_end}
 use Rattle.iio_device.specs.Device.{DeviceView, LeavesDevice}
 use Rattle.iio_device.specs.Members.{first_number, without}
 use Rattle.iio_kfifo.specs.Ends.{WriterEnd}
-use Rattle.iiod_bank.specs.Jobs.{Emptied, Left, count_lost, gone}
-use Rattle.iiod_bank.specs.Lent.{Kept}
+use Rattle.iiod_bank.specs.Jobs.{Emptied, Left, gone}
+use Rattle.iiod_bank.specs.Kept.{Kept}
 use Rattle.iiod_bank.proofs.JobLemmas.{kept_along, kept_left, kept_same}
 
 pub kept_twice : (a b c : DeviceView WriterEnd) → Kept a b → Kept b c → Kept a c
@@ -41,7 +42,7 @@ begins a s = record { members = 0; left = (refl, refl); kept = kept_same a a ref
 
 pub goes_on : (a : DeviceView WriterEnd) (s : State) (c : DeviceView WriterEnd) (u : State) (b : DeviceView WriterEnd) (t : State) (number : ℕ)
     (tail : WriterEnd)
-    → IsEmptying a s c u → first_number c.standing.members ≡ Some number → LeavesDevice count_lost number (Some tail) c b u t → IsEmptying a s b t
+    → IsEmptying a s c u → first_number c.standing.members ≡ Some number → LeavesDevice writer_end number (Some tail) c b u t → IsEmptying a s b t
 goes_on a s c u b t number tail now first left = record {
   members = suc now.members;
   left = (c, u, now.left, record { number = number; tail = tail; first = first; left = left });
@@ -49,7 +50,7 @@ goes_on a s c u b t number tail now first left = record {
 }
 
 pub smaller : (c b : DeviceView WriterEnd) (u t : State) (number : ℕ) (tail : WriterEnd) → first_number c.standing.members ≡ Some number
-    → LeavesDevice count_lost number (Some tail) c b u t → length b.standing.members < length c.standing.members
+    → LeavesDevice writer_end number (Some tail) c b u t → length b.standing.members < length c.standing.members
 smaller c b u t number tail first left = rw (ap (λ (v : DeviceView WriterEnd). v.standing.members) left.1) (fewer number c.standing.members first)
 
 pub emptied : (a : DeviceView WriterEnd) (s : State) (x b : DeviceView WriterEnd) (t : State) → x ≡ gone a → IsEmptying x s b t → b.standing.members ≡ []

@@ -15,6 +15,7 @@ use Rattle.iio_layout.specs.Layout.{scan_size}
 use Rattle.iio_layout.specs.Shape.{ShapeRecord, count_of}
 use Rattle.iio_device.specs.declared.handling.Handled.{Handled}
 use Rattle.iio_device.specs.declared.membership.Membership.{Membership}
+use Rattle.iio_device.specs.Ends.{writer_end}
 use Rattle.iio_device.specs.Device.{DeviceView, Handles, LeavesDevice, RemasksDevice, after_raw, after_trigger, after_write, at_site, device_joined, join_faults, raw_answer, remask_faults, trigger_answer, trigger_joined, write_answer}
 use Rattle.iio_device.specs.Members.{first_number, member_of}
 use Rattle.iio_device.specs.Site.{unplugged, with_monitor}
@@ -22,8 +23,7 @@ use Rattle.iio_device.specs.Stored.{attr_value}
 use Rattle.iio_core.specs.Faults.{errno_of, held_errno, holder_errno, map_err, raw_value, remask_errno}
 use Rattle.iiod_commands.specs.declared.iio.No.{No}
 use Rattle.iiod_commands.specs.declared.iio.No.TheVariants.{Errno as NoErrno, Mem as NoMem}
-use Rattle.iio_kfifo.specs.Ends.{Offers, WriterEnd}
-use Rattle.iio_kfifo.specs.Offers.{accepted, lost_in}
+use Rattle.iio_kfifo.specs.Ends.{WriterEnd}
 use Rattle.iiod_bank.specs.declared.opening.Opened.{Opened}
 use Rattle.iiod_bank.specs.declared.remasking.Remasked.{Remasked}
 use Rattle.iiod_bank.specs.Received.{IsFresh}
@@ -44,13 +44,6 @@ pub record Buffer : Type 0 where
 abbrev pub buffer_of : Mask → (scans bytes : ℕ) → Buffer
 buffer_of mask scans bytes = record { mask = mask; scans = scans; bytes = bytes }
 
--- the number of scans that a ring took, and of those that it lost, by its writer's end
-abbrev pub count_taken : WriterEnd → ℕ
-count_taken w = length (accepted w.knows.offers)
-
-abbrev pub count_lost : WriterEnd → ℕ
-count_lost w = lost_in w.knows.offers
-
 -- ---- OPEN
 
 -- where an OPEN may run: the mask has only channels of the device, and its scans have the size that the opener knows
@@ -64,8 +57,8 @@ open_refusal mask a s = option_and_then errno_of (first_refusal (join_faults a m
 
 -- the writer's end of a new ring for a buffer, to which nothing was offered
 pub record IsNewEnd (buffer : Buffer) (w : WriterEnd) : Type 0 where
-  pub taken_none : count_taken w ≡ 0
-  pub lost_none : count_lost w ≡ 0
+  pub taken_none : writer_end.taken w ≡ 0
+  pub lost_none : writer_end.lost w ≡ 0
   pub sized : w.size ≡ buffer.bytes
   pub bounded : w.capacity ≡ buffer.scans
 
@@ -90,7 +83,7 @@ OpenMakes buffer a s (Err NoMem) b t = (open_refusal buffer.mask.bits a s ≡ No
 
 -- a device without a trigger has no member
 abbrev pub LeaveMakes : ℕ → DeviceView WriterEnd → Option State → Option WriterEnd → DeviceView WriterEnd → Option State → Type 0
-LeaveMakes number a (Some s) o b (Some t) = LeavesDevice count_lost number o a b s t
+LeaveMakes number a (Some s) o b (Some t) = LeavesDevice writer_end number o a b s t
 LeaveMakes number a None o b None = (o ≡ None) × (member_of number a.standing.members ≡ None) × (b ≡ a)
 LeaveMakes number a (Some s) o b None = ⊥
 LeaveMakes number a None o b (Some t) = ⊥
@@ -107,7 +100,7 @@ pub record Exchanged (number : ℕ) (buffer : Buffer) (a : DeviceView WriterEnd)
   pub tail : WriterEnd
   pub end : IsNewEnd buffer tail
   pub one_ring : tail.ring ≡ o.reader.ring
-  pub remasks : RemasksDevice count_lost number buffer.mask tail (Ok o.before) a b
+  pub remasks : RemasksDevice writer_end number buffer.mask tail (Ok o.before) a b
 
 -- what the job makes of the device, by its answer
 abbrev pub RemaskMakes : ℕ → Buffer → DeviceView WriterEnd → Result Remasked No → DeviceView WriterEnd → Type 0
@@ -145,12 +138,12 @@ SetTriggerMakes trigger a o b = (o ≡ refused (trigger_answer a)) × (b ≡ aft
 -- ---- the numbers of a queue
 
 abbrev pub LostMakes : ℕ → DeviceView WriterEnd → Option ℕ → DeviceView WriterEnd → Type 0
-LostMakes number a o b = (o ≡ option_map (λ (m : Membership WriterEnd). count_lost m.tail) (member_of number a.standing.members)) × (b ≡ a)
+LostMakes number a o b = (o ≡ option_map (λ (m : Membership WriterEnd). writer_end.lost m.tail) (member_of number a.standing.members)) × (b ≡ a)
 
 -- ---- a trigger's entry
 
 abbrev pub HandleMakes : Handed → DeviceView WriterEnd → Handled → DeviceView WriterEnd → Type 0
-HandleMakes due a o b = Handles count_taken count_lost (λ w. w.size) (λ w. w.capacity) Offers due o a b
+HandleMakes due a o b = Handles writer_end due o a b
 
 -- ---- events
 
@@ -180,7 +173,7 @@ pub record FirstLeaves (a : DeviceView WriterEnd) (s : State) (b : DeviceView Wr
   pub number : ℕ
   pub tail : WriterEnd
   pub first : first_number a.standing.members ≡ Some number
-  pub left : LeavesDevice count_lost number (Some tail) a b s t
+  pub left : LeavesDevice writer_end number (Some tail) a b s t
 
 -- the first n members leave, one after another
 abbrev pub Left : ℕ → DeviceView WriterEnd → State → DeviceView WriterEnd → State → Type 0

@@ -1,5 +1,5 @@
 pub mod Received
-pub mod Lent
+pub mod Kept
 pub mod FrontOf
 pub mod Told
 pub mod Jobs

@@ -4,8 +4,9 @@ ghost use Rattle.std.specs.Prelude.{◌≡◌, ◌≢◌, ◌<◌, true, length,
 ghost use Rattle.std.proofs.Props.{props};
 ghost use Rattle.iio_attr.specs.declared.attributes.Attr.TheVariants.{Raw};
 ghost use Rattle.iio_desc.specs.declared.limits.TheConstants.{MAX_TRIGGERS};
+ghost use Rattle.iio_device.specs.Device.{view_of};
 ghost use Rattle.iiod_bank.specs.Jobs.{HasChannel, LostMakes, ReadMakes, SetTriggerMakes, WriteMakes};
-ghost use Rattle.iiod_bank.specs.Lent.{Kept, lent_by};
+ghost use Rattle.iiod_bank.specs.Kept.{Kept};
 
 use crate::bank::Work;
 use crate::front::HubFront;
@@ -39,7 +40,7 @@ pub struct ReadWork {
 // Samples channel `c`.
 fn read_raw(device: &mut Device<Writer>, t: i64, c: u32) -> Result<Value, No>
     requires { c < length device.old.core.roster.shape.channels }
-    ensures { ReadMakes t (Some c) Raw (lent_by ⟦<Plug as Sensor>⟧.driver device.old) result (lent_by ⟦<Plug as Sensor>⟧.driver device.new) }
+    ensures { ReadMakes t (Some c) Raw (view_of ⟦<Plug as Sensor>⟧.driver device.old) result (view_of ⟦<Plug as Sensor>⟧.driver device.new) }
 {
     match device.raw(c, t) {
         Ok(value) => Ok(Value::Int(value)),
@@ -56,7 +57,7 @@ fn read_kept(
 ) -> Result<Value, No>
     requires channel { HasChannel channel device.now.core.roster.shape }
     requires kept { IfSome channel (λ c. attr ≢ Raw) }
-    ensures { ReadMakes _t channel attr (lent_by ⟦<Plug as Sensor>⟧.driver device.now) result (lent_by ⟦<Plug as Sensor>⟧.driver device.now) }
+    ensures { ReadMakes _t channel attr (view_of ⟦<Plug as Sensor>⟧.driver device.now) result (view_of ⟦<Plug as Sensor>⟧.driver device.now) }
 {
     if !device.plugged() {
         return Err(No::Errno(Errno::ENODEV));
@@ -67,7 +68,7 @@ fn read_kept(
 // Returns the value of an attribute of channel `c`.
 fn read_channel(device: &mut Device<Writer>, t: i64, c: u32, attr: Attr) -> Result<Value, No>
     requires { c < length device.old.core.roster.shape.channels }
-    ensures { ReadMakes t (Some c) attr (lent_by ⟦<Plug as Sensor>⟧.driver device.old) result (lent_by ⟦<Plug as Sensor>⟧.driver device.new) }
+    ensures { ReadMakes t (Some c) attr (view_of ⟦<Plug as Sensor>⟧.driver device.old) result (view_of ⟦<Plug as Sensor>⟧.driver device.new) }
 {
     match attr {
         Attr::Raw => read_raw(device, t, c),

@@ -13,9 +13,9 @@ use iio_trigger::Trigger;
 pub trait DeviceJob: Drop {
     ghost use Rattle.iio_layout.specs.Shape.{ShapeRecord};
     ghost use Rattle.iio_trigger.specs.Trigger.{State};
-    ghost use Rattle.iio_device.specs.Device.{DeviceView};
+    ghost use Rattle.iio_device.specs.Device.{DeviceView, view_of};
     ghost use Rattle.iio_kfifo.specs.Ends.{WriterEnd};
-    ghost use Rattle.iiod_bank.specs.Lent.{Kept, lent_by};
+    ghost use Rattle.iiod_bank.specs.Kept.{Kept};
 
     type Out;
 
@@ -34,24 +34,24 @@ pub trait DeviceJob: Drop {
     fn alone(self, device: &mut Device<Writer>) -> Self::Out
         requires may { may self device.old.core.roster.shape }
         requires none { device.old.core.trigger ≡ None }
-        ensures makes { makes self (lent_by ⟦<Plug as Sensor>⟧.driver device.old) None result (lent_by ⟦<Plug as Sensor>⟧.driver device.new) None }
-        ensures kept { Kept (lent_by ⟦<Plug as Sensor>⟧.driver device.old) (lent_by ⟦<Plug as Sensor>⟧.driver device.new) };
+        ensures makes { makes self (view_of ⟦<Plug as Sensor>⟧.driver device.old) None result (view_of ⟦<Plug as Sensor>⟧.driver device.new) None }
+        ensures kept { Kept (view_of ⟦<Plug as Sensor>⟧.driver device.old) (view_of ⟦<Plug as Sensor>⟧.driver device.new) };
 
     /// Runs the job at a device and its trigger.
     fn paired(self, device: &mut Device<Writer>, trigger: &mut Trigger) -> Self::Out
         requires may { may self device.old.core.roster.shape }
         requires some { is_some device.old.core.trigger ≡ true }
-        ensures makes { makes self (lent_by ⟦<Plug as Sensor>⟧.driver device.old) (Some trigger.old) result (lent_by ⟦<Plug as Sensor>⟧.driver device.new)
+        ensures makes { makes self (view_of ⟦<Plug as Sensor>⟧.driver device.old) (Some trigger.old) result (view_of ⟦<Plug as Sensor>⟧.driver device.new)
             (Some trigger.new) }
-        ensures kept { Kept (lent_by ⟦<Plug as Sensor>⟧.driver device.old) (lent_by ⟦<Plug as Sensor>⟧.driver device.new) };
+        ensures kept { Kept (view_of ⟦<Plug as Sensor>⟧.driver device.old) (view_of ⟦<Plug as Sensor>⟧.driver device.new) };
 }
 
 /// Work at a device alone.
 pub trait Work: Drop {
     ghost use Rattle.iio_layout.specs.Shape.{ShapeRecord};
-    ghost use Rattle.iio_device.specs.Device.{DeviceView};
+    ghost use Rattle.iio_device.specs.Device.{DeviceView, view_of};
     ghost use Rattle.iio_kfifo.specs.Ends.{WriterEnd};
-    ghost use Rattle.iiod_bank.specs.Lent.{Kept, lent_by};
+    ghost use Rattle.iiod_bank.specs.Kept.{Kept};
 
     type Out;
 
@@ -69,8 +69,8 @@ pub trait Work: Drop {
     /// Does the work.
     fn run(self, device: &mut Device<Writer>) -> Self::Out
         requires may { may self device.old.core.roster.shape }
-        ensures does { does self (lent_by ⟦<Plug as Sensor>⟧.driver device.old) result (lent_by ⟦<Plug as Sensor>⟧.driver device.new) }
-        ensures kept { Kept (lent_by ⟦<Plug as Sensor>⟧.driver device.old) (lent_by ⟦<Plug as Sensor>⟧.driver device.new) };
+        ensures does { does self (view_of ⟦<Plug as Sensor>⟧.driver device.old) result (view_of ⟦<Plug as Sensor>⟧.driver device.new) }
+        ensures kept { Kept (view_of ⟦<Plug as Sensor>⟧.driver device.old) (view_of ⟦<Plug as Sensor>⟧.driver device.new) };
 }
 
 /// A `Work` as a job, which leaves the trigger alone.

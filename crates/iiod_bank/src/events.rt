@@ -1,8 +1,9 @@
 //! The jobs at a device's events, and the handling of a trigger's entry.
 
 ghost use Rattle.std.specs.Prelude.{◌≡◌, true};
+ghost use Rattle.iio_device.specs.Device.{view_of};
 ghost use Rattle.iiod_bank.specs.Jobs.{EvCloseMakes, EvOpenMakes, EvReadMakes, HandleMakes};
-ghost use Rattle.iiod_bank.specs.Lent.{Kept, lent_by};
+ghost use Rattle.iiod_bank.specs.Kept.{Kept};
 
 use crate::bank::Work;
 use iio_device::{Device, Handled, Plug};

@@ -5,10 +5,10 @@ ghost use Rattle.iio_desc.specs.Description.{input_head};
 ghost use Rattle.iio_desc.specs.WellFormed.{HasPlaces, IsWellFormed};
 ghost use Rattle.iio_desc.specs.declared.limits.TheConstants.{MAX_TRIGGERS};
 ghost use Rattle.iio_device.specs.declared.plug.Plug.TheVariants.{Given};
+ghost use Rattle.iio_device.specs.Device.{view_of};
 ghost use Rattle.iio_probe.specs.Devices.{first_devices};
 ghost use Rattle.iiod_bank.specs.First.{first_told, first_triggers};
 ghost use Rattle.iiod_bank.specs.FrontOf.{face_of, front_of, served_front};
-ghost use Rattle.iiod_bank.specs.Lent.{lent_by};
 ghost use Rattle.iiod_bank.specs.Own.{Fits};
 
 use crate::bank::Bank;
@@ -65,8 +65,7 @@ pub struct Parts {
 fn made_of(alloc: Global, desc: Desc, drivers: Vec<Box<dyn Sensor + Send>>) -> Result<Parts, Mem>
     requires { IsWellFormed (length drivers.items) desc }
     ensures front { IfOk result (λ p. front_of p.front ≡ served_front desc) }
-    ensures devices { IfOk result
-        (λ p. map (λ d. lent_by ⟦<Plug as Sensor>⟧.driver d) p.devices.items
+    ensures devices { IfOk result (λ p. map (λ d. view_of ⟦<Plug as Sensor>⟧.driver d) p.devices.items
         ≡ first_devices (map (λ d. ⟦<Plug as Sensor>⟧.driver (Given d)) drivers.items) 0 desc.devices) }
     ensures triggers { IfOk result (λ p. p.triggers.items ≡ first_triggers desc.triggers) }
 {
@@ -99,8 +98,7 @@ pub fn parts_of(
 ) -> Result<Parts, Mem>
     requires { IsWellFormed (length drivers.items) desc }
     ensures front { IfOk result (λ p. front_of p.front ≡ served_front desc) }
-    ensures devices { IfOk result
-        (λ p. map (λ d. lent_by ⟦<Plug as Sensor>⟧.driver d) p.devices.items
+    ensures devices { IfOk result (λ p. map (λ d. view_of ⟦<Plug as Sensor>⟧.driver d) p.devices.items
         ≡ first_devices (map (λ d. ⟦<Plug as Sensor>⟧.driver (Given d)) drivers.items) 0 desc.devices) }
     ensures triggers { IfOk result (λ p. p.triggers.items ≡ first_triggers desc.triggers) }
     ensures fits { IfOk result (λ p. Fits p.front p.devices.items (length p.triggers.items)) }

@@ -3,8 +3,9 @@
 ghost use Rattle.std.specs.Prelude.{◌≡◌, ◌==◌, ◌*◌, ◌^◌, ◌≤◌, ◌<◌, nat_lt, true, Some, None, is_some};
 ghost use Rattle.iio_layout.specs.Layout.{scan_size};
 ghost use Rattle.iio_kfifo.specs.declared.limits.TheConstants.{MAX_BYTES};
+ghost use Rattle.iio_device.specs.Device.{view_of};
 ghost use Rattle.iiod_bank.specs.Jobs.{LeaveMakes, MayOpenAt, OpenMakes, buffer_of};
-ghost use Rattle.iiod_bank.specs.Lent.{Kept, lent_by};
+ghost use Rattle.iiod_bank.specs.Kept.{Kept};
 
 use crate::bank::DeviceJob;
 use iio_device::{Device, JoinRefused, Member, Plug};
@@ -57,8 +58,8 @@ pub fn open_at(
     requires bytes { 1 ≤ size }
     requires fits { capacity * size ≤ MAX_BYTES }
     requires trigger { is_some device.old.core.trigger ≡ true }
-    ensures { OpenMakes (buffer_of mask capacity size) (lent_by ⟦<Plug as Sensor>⟧.driver device.old) (Some trigger.old) result
-        (lent_by ⟦<Plug as Sensor>⟧.driver device.new) (Some trigger.new) }
+    ensures { OpenMakes (buffer_of mask capacity size) (view_of ⟦<Plug as Sensor>⟧.driver device.old) (Some trigger.old) result
+        (view_of ⟦<Plug as Sensor>⟧.driver device.new) (Some trigger.new) }
 {
     if let Err(fault) = device.may_join(mask, Some(trigger)) {
         return Err(no_of(fault));
@@ -78,8 +79,8 @@ pub fn open_at(
 // Refuses an OPEN at a device without a trigger.
 fn open_alone(device: &Device<Writer>, mask: Mask, _capacity: u32, _size: u32) -> Result<Opened, No>
     requires none { device.now.core.trigger ≡ None }
-    ensures { OpenMakes (buffer_of mask _capacity _size) (lent_by ⟦<Plug as Sensor>⟧.driver device.now) None result
-        (lent_by ⟦<Plug as Sensor>⟧.driver device.now) None }
+    ensures { OpenMakes (buffer_of mask _capacity _size) (view_of ⟦<Plug as Sensor>⟧.driver device.now) None result
+        (view_of ⟦<Plug as Sensor>⟧.driver device.now) None }
 {
     match device.may_join(mask, None) {
         Err(fault) => Err(no_of(fault)),

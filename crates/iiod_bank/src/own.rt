@@ -27,13 +27,13 @@ pub struct OwnBank {
 impl Bank for OwnBank {
     ghost use Rattle.std.specs.Prelude.{map, Some};
     ghost use Rattle.iio_device.specs.Plug.{driver_of};
-    ghost use Rattle.iiod_bank.specs.Lent.{lent_by};
+    ghost use Rattle.iio_device.specs.Device.{view_of};
     ghost use Rattle.iiod_bank.specs.FrontOf.{front_of};
 
     ghost front = { λ b. front_of b.front };
 
     ghost told = { λ b. Some (record {
-      devices = map (λ d. lent_by (driver_of (λ p. (Sensor-box p).driver p.value)) d) b.devices.items;
+      devices = map (λ d. view_of (driver_of (λ p. (Sensor-box p).driver p.value)) d) b.devices.items;
       triggers = b.triggers.items;
       clock = b.clock;
     }) };

@@ -2,8 +2,9 @@
 
 ghost use Rattle.std.specs.Prelude.{◌≡◌, ◌*◌, ◌≤◌, true};
 ghost use Rattle.iio_kfifo.specs.declared.limits.TheConstants.{MAX_BYTES};
+ghost use Rattle.iio_device.specs.Device.{view_of};
 ghost use Rattle.iiod_bank.specs.Jobs.{MayOpenAt, RemaskMakes, buffer_of};
-ghost use Rattle.iiod_bank.specs.Lent.{Kept, lent_by};
+ghost use Rattle.iiod_bank.specs.Kept.{Kept};
 
 use crate::bank::Work;
 use crate::opening::is_sized;
@@ -35,8 +36,8 @@ fn remask_at(
     requires some { 1 ≤ capacity }
     requires bytes { 1 ≤ size }
     requires fits { capacity * size ≤ MAX_BYTES }
-    ensures { RemaskMakes member.now.number (buffer_of mask capacity size) (lent_by ⟦<Plug as Sensor>⟧.driver device.old) result
-        (lent_by ⟦<Plug as Sensor>⟧.driver device.new) }
+    ensures { RemaskMakes member.now.number (buffer_of mask capacity size) (view_of ⟦<Plug as Sensor>⟧.driver device.old) result
+        (view_of ⟦<Plug as Sensor>⟧.driver device.new) }
 {
     if let Err(fault) = device.may_remask(member, mask) {
         return Err(remask_no(fault));

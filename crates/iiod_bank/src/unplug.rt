@@ -1,8 +1,9 @@
 //! The end of a device.
 
 ghost use Rattle.std.specs.Prelude.{◌≡◌, ◌<◌, ◌≤◌, true, Some, None, is_some, length};
+ghost use Rattle.iio_device.specs.Device.{view_of};
 ghost use Rattle.iiod_bank.specs.Jobs.{Emptied, UnplugMakes};
-ghost use Rattle.iiod_bank.specs.Lent.{Kept, lent_by};
+ghost use Rattle.iiod_bank.specs.Kept.{Kept};
 
 use crate::bank::DeviceJob;
 use iio_device::{Device, Plug};

@@ -1,7 +1,6 @@
 -- What the bytes mean that come where an answer is awaited, and that they have one meaning.
 use Rattle.std.proofs.Common.{◌≡◌, ◌⊎◌, inl, inr, ℕ, List, [], ◌∷◌, ◌++◌, Option, Some, None, refl, sym, ap, subst, ◌∙◌, arith, append_assoc, append-nil, rules}
 use Rattle.std.proofs.lemmas.Grind.{common_steps}
-use Rattle.std.proofs.lemmas.List.{nil_from_length}
 use Rattle.iiod_client.specs.declared.answer.State.{State}
 use Rattle.iiod_client.specs.declared.answer.State.TheVariants as state
 use Rattle.iiod_client.specs.Line.{line_text, HasNoLf, IsBegunLine, IsLongLine, zero_line, refusal_of}
@@ -71,12 +70,12 @@ abbrev One : (s t : State) (more body other : List ℕ) → Type 0
 One s t more body other = (more ≡ []) × (t ≡ s) × (told_body t other ≡ told_body s body)
 
 not_begun : (s : State) (text body more : List ℕ) → PlainEnd s text body ⊎ (IsLongLine text × (s ≡ state.Malformed)) → IsBegunLine (text ++ more) → ⊥
-not_begun s text body more h1 b = grind (arith, common_steps, has_lf, spelled)
+not_begun s text body more h1 b = grind (arith, common_steps, has_lf)
 
 one_end : (s t : State) (text more body other : List ℕ) → PlainEnd s text body ⊎ (IsLongLine text × (s ≡ state.Malformed)) → PlainEnd t (text ++ more) other
     ⊎ (IsLongLine (text ++ more) × (t ≡ state.Malformed))
     → One s t more body other
-one_end s t text more body other h1 h2 = grind (arith, common_steps, one_line, spelled, one_says, has_lf, nil_from_length)
+one_end s t text more body other h1 h2 = grind (arith, common_steps, one_line, has_lf)
 
 one_plain : (s t : State) (text more body other : List ℕ) → IsEnd s → ReadsAs Plain s text body → ReadsAs Plain t (text ++ more) other → One s t more body other
 one_plain s state.More text more body other is r k = absurd (not_begun s text body more (plain_end s text body is r) k)

@@ -4,7 +4,6 @@ use Rattle.std.proofs.lemmas.Grind.{common_steps}
 use Rattle.std.specs.Prelude.{⊤, OnOk, OnErr, IfErr, min}
 use Rattle.std.proofs.lemmas.Bool.{cases_lt}
 use Rattle.iiod_client.specs.declared.client.TheConstants.{MOST_SCANS}
-use Rattle.iiod_client.proofs.Stands.{blocks_some}
 use Rattle.iiod_client.specs.declared.client_end.ClientEnd.{ClientEnd}
 use Rattle.iiod_client.specs.declared.client_end.ClientEnd.TheVariants.{Done, Refused, LinkFault, WriteFault, Memory, Malformed, Cut}
 use Rattle.iiod_client.specs.Answer.{IsAnswer}
@@ -98,7 +97,7 @@ pub print_fails : (w : Wanted) (got : ℕ) (line body : List ℕ) (e : ClientEnd
     → line ≡ readbuf_line w (batch w got)
     → Exchanges {A = ⊤} (Scans (question w got)) line body (Ok tt) a (point l p s o) → WroteFront o (scan_lines w.shape w.mask body) t → (e ≡ WriteFault)
     ⊎ (e ≡ Memory) → Reads w got (Err e) a (point l p s t)
-print_fails w got line body e a l p s o t same x part which = grind (arith, common_steps, heard_front, all_of, wrote_front)
+print_fails w got line body e a l p s o t same x part which = grind (arith, common_steps, heard_front, all_of)
 
 pub print_ends : (w : Wanted) (got more : ℕ) (line body : List ℕ) (a : Point) (l : Option (List ℕ)) (p : List ℕ) (s o t : Option (List ℕ))
     → line ≡ readbuf_line w (batch w got)
@@ -150,7 +149,7 @@ div_few s m n some f = search rules
 
 -- an answer has no more scans than were asked for, and at least one
 pub answer_few : (w : Wanted) (got : ℕ) (text body : List ℕ) → IsAnswer (question w got) text body → length body / size_for w ≤ min MOST_SCANS (w.scans - got)
-answer_few w got text body ans = search (rules, div_few, blocks_some)
+answer_few w got text body ans = search (rules, div_few)
 
 pub answer_some : (w : Wanted) (got : ℕ) (text body : List ℕ) → 1 ≤ size_for w → IsAnswer (question w got) text body → 1 ≤ length body / size_for w
 answer_some w got text body size ans = grind (arith, common_steps)
@@ -193,4 +192,4 @@ batch_fails w reads got e a b c are same less g r = by e r
 pub refusal_ends : (w : Wanted) (n : ℕ) (end : ClientEnd) (a : Point) (l : Option (List ℕ)) (p : List ℕ) (s o t : Option (List ℕ))
     → EndsRefused w n [] a (point l p s o) → Refuses end n
     → (end ≡ Refused n → Wrote o (refused_line n) t) → WroteFront o (refused_line n) t → Ends w end a (point l p s t)
-refusal_ends w n end a l p s o t r is whole part = search (rules, heard_front, all_of, wrote_front, wrote_more)
+refusal_ends w n end a l p s o t r is whole part = search (rules, all_of, wrote_front, wrote_more)

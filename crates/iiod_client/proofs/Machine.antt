@@ -16,8 +16,6 @@ use Rattle.iiod_client.specs.Standing.{IsPartial, Reads, IsEnd, OneReading, read
 use Rattle.iiod_client.specs.Steps.{AfterLength, AfterMask, AfterBlock}
 use Rattle.iiod_client.proofs.Stands.{blocks_some}
 
--- ---- a line has one meaning
-
 -- ---- the machine
 
 -- at a place of an answer, with the bytes of a line and the data so far; or after an answer's end
@@ -340,7 +338,7 @@ run_reads q state.Malformed text body r = let (b, k) = run_malformed q text r in
 behind : (q : Asked) (x y : M) (more : List ℕ) (s t : State) (k j : List ℕ) → says x ≡ told s k → IsEnd s → says y ≡ told t j → Runs q x more y → (more ≡ [])
     × (told t j ≡ told s k)
 behind q x y [] s t k j e is f r = (refl, sym f ∙ ap says r ∙ e)
-behind q x y (b ∷ bs) s t k j e is f (u, step, r) = search (rules, runs_beyond, end_step)
+behind q x y (b ∷ bs) s t k j e is f (u, step, r) = search (rules, runs_beyond)
 
 pub one_reading : OneReading
 one_reading q s t text more body other is r1 r2 =

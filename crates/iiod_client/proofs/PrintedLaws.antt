@@ -4,9 +4,9 @@ use Rattle.std.proofs.lemmas.Grind.{common_steps}
 use Rattle.std.specs.Fmt.{signed_decimal}
 use Rattle.iio_scan_type.specs.Format.{Format, size_of}
 use Rattle.iio_layout.specs.Layout.{format_at, place_of, scan_size}
-use Rattle.iio_layout.specs.Shape.{ShapeRecord, formats_of}
+use Rattle.iio_layout.specs.Shape.{ShapeRecord, formats_of, channel_name}
 use Rattle.iio_scan_type.specs.Bytes.{value_at}
-use Rattle.iiod_client.specs.Printed.{channel_name, elements_text, field_text, lines_below, scan_line}
+use Rattle.iiod_client.specs.Printed.{elements_text, field_text, lines_below, scan_line}
 
 -- ---- elements
 

@@ -117,9 +117,7 @@ length_end q line body text Malformed s a = search (rules, ended)
 
 pub mask_end : (q : Asked) (n : ℕ) (line body text : List ℕ) (p : Place) → InMask q n line body text → AfterMask q n line p
     → StandsAt p q [] body (text ++ 10 ∷ [])
-mask_end q n line body text p s a = grind (arith, common_steps, ended, blocks_first, number_at)
-
--- ---- bytes of a block
+mask_end q n line body text p s a = grind (arith, common_steps, blocks_first)
 
 -- ---- what comes at a place that isn't in a block
 

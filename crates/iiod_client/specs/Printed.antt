@@ -1,24 +1,13 @@
 -- The lines that a client prints for scans. (This project's own; the values are those of the kernel's layout and types.)
-use Rattle.std.specs.Prelude.{ℕ, zero, suc, ◌*◌, ◌/◌, List, [], ◌∷◌, ◌++◌, length, take, drop, codes, Option, Some, None, slice_get}
+use Rattle.std.specs.Prelude.{ℕ, zero, suc, ◌*◌, ◌/◌, List, [], ◌∷◌, ◌++◌, length, take, drop, codes}
 use Rattle.std.specs.Fmt.{decimal, signed_decimal}
-use Rattle.std.specs.List.{filter, flat_map, range_with_len}
+use Rattle.std.specs.List.{flat_map}
 use Rattle.hex.specs.Hex.{encode_lower}
-use Rattle.iio_mask.specs.Mask.{has}
+use Rattle.iio_mask.specs.Mask.{channels_below}
 use Rattle.iio_scan_type.specs.Bytes.{value_at}
 use Rattle.iio_scan_type.specs.Format.{Format}
-use Rattle.iio_layout.specs.declared.channel.Channel.{Channel}
-use Rattle.iio_layout.specs.Id.{id_text}
-use Rattle.iio_layout.specs.Shape.{ShapeRecord, formats_of, count_of}
+use Rattle.iio_layout.specs.Shape.{ShapeRecord, formats_of, count_of, channel_name}
 use Rattle.iio_layout.specs.Layout.{format_at, size_at, place_of, scan_size}
-
--- the ID of a data channel, or else the timestamp's
-abbrev pub name_of : Option Channel → List ℕ
-name_of (Some channel) = id_text channel.kind channel.suffix
-name_of None = codes "timestamp"
-
--- the ID of channel c; after the data channels it is the timestamp's
-abbrev pub channel_name : ShapeRecord → ℕ → List ℕ
-channel_name shape c = name_of (slice_get shape.channels c)
 
 -- the first n elements of a channel's bytes, in decimal, with `,` between
 abbrev pub elements_text : Format → List ℕ → ℕ → List ℕ
@@ -36,13 +25,9 @@ field_text shape mask scan c =
     let f = format_at (formats_of shape) c in
     32 ∷ (channel_name shape c ++ 61 ∷ elements_text f (channel_in shape mask scan c) f.repeat)
 
--- the channels of a mask among the first `channels`, in order
-abbrev pub selected : (mask : ℕ) → (channels : ℕ) → List ℕ
-selected mask channels = filter (λ c. has mask c) (range_with_len 0 channels)
-
 -- a scan's line: its bytes in hexadecimal, and the selected channels' values
 abbrev pub scan_line : ShapeRecord → (mask : ℕ) → (scan : List ℕ) → List ℕ
-scan_line shape mask scan = encode_lower scan ++ (flat_map (field_text shape mask scan) (selected mask (count_of shape)) ++ 10 ∷ [])
+scan_line shape mask scan = encode_lower scan ++ (flat_map (field_text shape mask scan) (channels_below mask (count_of shape)) ++ 10 ∷ [])
 
 -- the lines of the first n scans in these bytes
 abbrev pub lines_below : ShapeRecord → (mask : ℕ) → List ℕ → ℕ → List ℕ

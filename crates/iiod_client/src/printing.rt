@@ -4,12 +4,12 @@ ghost use Rattle.std.specs.Prelude.{◌≡◌, ◌^◌, ◌<◌, ◌≤◌, ◌+
 ghost use Rattle.std.specs.Fmt.{decimal, signed_decimal};
 ghost use Rattle.std.specs.List.{flat_map};
 ghost use Rattle.hex.specs.Hex.{encode_lower};
-ghost use Rattle.iio_mask.specs.Mask.{has};
+ghost use Rattle.iio_mask.specs.Mask.{channels_below, has};
 ghost use Rattle.iio_scan_type.specs.Bytes.{value_at};
 ghost use Rattle.iio_scan_type.specs.Format.{size_of};
 ghost use Rattle.iio_layout.specs.Layout.{scan_size};
-ghost use Rattle.iio_layout.specs.Shape.{count_of};
-ghost use Rattle.iiod_client.specs.Printed.{channel_name, elements_text, field_text, refused_line, scan_line, selected};
+ghost use Rattle.iio_layout.specs.Shape.{count_of, channel_name};
+ghost use Rattle.iiod_client.specs.Printed.{elements_text, field_text, refused_line, scan_line};
 
 use iio_base::Mem;
 use iio_layout::{Shape, place, write_id};
@@ -86,7 +86,7 @@ fn push_field(out: &mut Vec<u8>, shape: &Shape, mask: Mask, scan: &[u8], c: u32)
 fn push_fields(out: &mut Vec<u8>, shape: &Shape, mask: Mask, scan: &[u8]) -> Result<(), Mem>
     requires below { mask.bits < 2 ^ count_of shape.now }
     requires size { length scan.now ≡ scan_size shape.now mask.bits }
-    ensures { OnOk result (out.new.items ≡ out.old.items ++ flat_map (field_text shape.now mask.bits scan.now) (selected mask.bits (count_of shape.now))) }
+    ensures { OnOk result (out.new.items ≡ out.old.items ++ flat_map (field_text shape.now mask.bits scan.now) (channels_below mask.bits (count_of shape.now))) }
 {
     for c in 0..shape.count() {
         if mask.contains(c) {

@@ -2,11 +2,11 @@
 
 ghost use Rattle.std.specs.Prelude.{◌≡◌, ◌^◌, ◌<◌, ◌≤◌, ◌++◌, true, OnOk, IfOk};
 ghost use Rattle.std.specs.List.{flat_map};
-ghost use Rattle.iio_mask.specs.Mask.{has};
-ghost use Rattle.iio_layout.specs.Shape.{count_of};
+ghost use Rattle.iio_mask.specs.Mask.{channels_below, has};
+ghost use Rattle.iio_layout.specs.Shape.{count_of, channel_name};
 ghost use Rattle.iio_script.specs.Ends.{Finishes};
 ghost use Rattle.iiod_program.specs.Layout.{laid_under};
-ghost use Rattle.iiod_program.specs.Placing.{channel_line, channel_name, layout_text, scan_line, selected};
+ghost use Rattle.iiod_program.specs.Placing.{channel_line, layout_text, scan_line};
 
 use iio_layout::{Shape, place, scan_size, write_id};
 use iio_mask::Mask;
@@ -55,7 +55,7 @@ fn push_channel(
 // Appends the lines of the selected channels.
 fn push_channels(alloc: Global, out: &mut Vec<u8>, shape: &Shape, mask: Mask) -> Result<(), Mem>
     requires { mask.bits < 2 ^ count_of shape.now }
-    ensures { OnOk result (out.new.items ≡ out.old.items ++ flat_map (channel_line shape.now mask.bits) (selected mask.bits (count_of shape.now))) }
+    ensures { OnOk result (out.new.items ≡ out.old.items ++ flat_map (channel_line shape.now mask.bits) (channels_below mask.bits (count_of shape.now))) }
 {
     for c in 0..shape.count() {
         if mask.contains(c) {

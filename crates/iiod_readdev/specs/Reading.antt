@@ -1,6 +1,6 @@
 -- What `readdev` does for an input, and what it then prints and sends.
 -- (This project's own; the reading over the link is that of `iiod_client`.)
-use Rattle.std.specs.Prelude.{◌≡◌, ◌⊎◌, ℕ, suc, List, [], ◌∷◌, ◌++◌, codes, Option, Some, IfSome, Result, Ok, Err}
+use Rattle.std.specs.Prelude.{◌≡◌, ◌⊎◌, ℕ, suc, List, Option, Some, IfSome, Result, Ok, Err}
 use Rattle.iio_text.specs.declared.refusals.Why.{Why}
 use Rattle.iio_desc.specs.declared.reader.DescFault.TheVariants.{Line, Mem}
 use Rattle.iio_desc.specs.Description.{Description}
@@ -11,6 +11,7 @@ use Rattle.iio_script.specs.LineReader.{TakesBlocks, TakesNear}
 use Rattle.iio_script.specs.declared.status.Status.{Status}
 use Rattle.iio_script.specs.declared.status.Status.TheVariants as run_status
 use Rattle.iiod_serve.specs.Reading.{IsStop, Says, served_of}
+use Rattle.iiod_serve.specs.Served.{no_address_line}
 use Rattle.iiod_serve.specs.Usage.{IsUsage, PrintsUsage}
 use Rattle.iiod_client.specs.declared.client_end.ClientEnd.{ClientEnd}
 use Rattle.iiod_client.specs.Ask.{Wanted}
@@ -21,10 +22,6 @@ use Rattle.iiod_readdev.specs.declared.read_status.ReadStatus.TheVariants as sta
 use Rattle.iiod_readdev.specs.ReadStatus.{of_client, of_run}
 use Rattle.iiod_readdev.specs.Wanted.{wanted_of}
 use Rattle.iiod_readdev.specs.Words.{ReaddevWords}
-
--- the line that is printed if the connection couldn't be begun
-abbrev pub no_address_line : List ℕ
-no_address_line = codes "no address" ++ 10 ∷ []
 
 -- nothing came or went over the link
 pub record IsUntouched (a b : Point) : Type 0 where

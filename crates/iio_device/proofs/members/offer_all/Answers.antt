@@ -8,7 +8,7 @@ use Rattle.iio_device.proofs.members.offer_all.Goals as goal
 pub offer_one-requires-clause-sized : goal.offer_one-requires-clause-sized
 offer_one-requires-clause-sized g c =
     let tail = g.Q.Tail in
-    moved_next (λ a b. WasOffered tail.taken tail.lost tail.size tail.capacity tail.offer_gives
+    moved_next (λ a b. WasOffered tail
     (scan_for c.args.active.bits c.args.union.now c.args.groups.now a.mask.bits) a b)
     (λ (m : Membership g.row.Q.Denot). length (scan_for c.args.active.bits c.args.union.now c.args.groups.now m.mask.bits) ≡ tail.size m.tail) _ _ _ _
     c.requires.sized c.loop-i.invariant.moved (search rules) c.index_mut.ensures.value
@@ -16,7 +16,7 @@ offer_one-requires-clause-sized g c =
 pub offer_one-requires-clause-fewer : goal.offer_one-requires-clause-fewer
 offer_one-requires-clause-fewer g c =
     let tail = g.Q.Tail in
-    moved_next (λ a b. WasOffered tail.taken tail.lost tail.size tail.capacity tail.offer_gives
+    moved_next (λ a b. WasOffered tail
     (scan_for c.args.active.bits c.args.union.now c.args.groups.now a.mask.bits) a b)
     (λ (m : Membership g.row.Q.Denot). tail.taken m.tail + tail.lost m.tail < 18446744073709551615) _ _ _ _
     c.requires.fewer c.loop-i.invariant.moved (search rules) c.index_mut.ensures.value
@@ -26,7 +26,7 @@ loop-i-preserved g c =
     let tail = g.Q.Tail in
     record {
       moved =
-          moved_more (λ a b. WasOffered tail.taken tail.lost tail.size tail.capacity tail.offer_gives
+          moved_more (λ a b. WasOffered tail
           (scan_for c.args.active.bits c.args.union.now c.args.groups.now a.mask.bits) a b) _ _ _ c.index_mut.result.now _ _
           c.loop-i.invariant.moved (search rules) c.index_mut.ensures.value c.offer_one.ensures;
       all = c.loop-i.invariant.all;
@@ -37,6 +37,6 @@ loop-i-preserved g c =
 pub returns-clause-offered : goal.returns-clause-offered
 returns-clause-offered g c =
     let tail = g.Q.Tail in
-    moved_all (λ a b. WasOffered tail.taken tail.lost tail.size tail.capacity tail.offer_gives
+    moved_all (λ a b. WasOffered tail
     (scan_for c.args.active.bits c.args.union.now c.args.groups.now a.mask.bits) a b) _ _ _
     c.loop-i.invariant.moved (omega (arith, c.loop-i.invariant.all))

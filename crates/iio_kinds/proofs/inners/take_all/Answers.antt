@@ -2,8 +2,9 @@ use Rattle.std.proofs.Common.{◌≡◌, ap, refl, sym, ◌∙◌, take, slice_i
 use Rattle.std.proofs.lemmas.List.{get_or_default, take_all}
 use Rattle.iio_device.specs.Plug.{driver_of}
 use Rattle.iio_device.specs.Site.{is_empty}
+use Rattle.iio_device.specs.Device.{view_of}
 use Rattle.iio_kinds.specs.declared.in_device.Inner.{Inner}
-use Rattle.iio_kinds.specs.Station.{station_by, view_by}
+use Rattle.iio_kinds.specs.Station.{station_by}
 use Rattle.iio_kinds.specs.Taking.{all_taken}
 use Rattle.iio_kinds.proofs.TakeAllLemmas.{first_taken, next_apart, next_keeps, next_more, next_own, next_room, next_roomy, next_station, next_there}
 use Rattle.iio_kinds.proofs.inners.take_all.Goals as goal
@@ -26,9 +27,9 @@ loop-inner-preserved g c =
     let less = c.loop-inner-test.true in
     let i : Inner = slice_index_or inners k (record { number = 0; average = 0 }) in
     let at : i ≡ slice_index_or inners k i = get_or_default inners k (record { number = 0; average = 0 }) i less in
-    let first = view_by drive c.args.device.now in
-    let v = view_by drive c.loop-inner.device in
-    let v' = view_by drive c.take_inside-taken.new.self in
+    let first = view_of drive c.args.device.now in
+    let v = view_of drive c.loop-inner.device in
+    let v' = view_of drive c.take_inside-taken.new.self in
     let more = next_more k inners i less at in
     let apart = next_apart k inners i more c.requires.once in
     let own = next_own k inners i less at in

@@ -9,5 +9,5 @@ invariant-loop-desc g l =
     (goal.iterator-loop-desc g).can_next l.desc-iterator ×
     (goal.iterator-loop-desc g).is_finite l.desc-iterator ×
     Making (λ d. driver_of (λ b. (g.dyn-1.0.entry b.vtable).1.driver b.value) (Given d))
-    (λ d. view_of (driver_of (λ b. (g.dyn-1.0.entry b.vtable).1.driver b.value)) d.core d.plug) l.fn.descs.items l.fn.drivers.items l.yielded
+    (view_of (driver_of (λ b. (g.dyn-1.0.entry b.vtable).1.driver b.value))) l.fn.descs.items l.fn.drivers.items l.yielded
     l.desc-iterator.rest.items l.devices.items l.slots.items

@@ -1,5 +1,5 @@
 use Rattle.std.proofs.Common.{refl}
-use Rattle.iiod_readdev.specs.Reading.{no_address_line}
+use Rattle.iiod_serve.specs.Served.{no_address_line}
 use Rattle.iiod_readdev.proofs.ReadLaws.{front_of_part}
 use Rattle.iiod_readdev.proofs.dialled.end_undialled.Goals as goal
 

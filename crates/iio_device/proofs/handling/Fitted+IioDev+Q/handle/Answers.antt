@@ -10,7 +10,7 @@ returns-in-Ok g c =
       (
         search rules,
         search rules,
-        offered_by tail.taken tail.lost tail.size tail.capacity tail.offer_gives _ c.args.self.now.core.roster.shape _ c.in-Some.plug _
+        offered_by tail _ c.args.self.now.core.roster.shape _ c.in-Some.plug _
             c.args.due.now.t _ _ c.in-Some.is (search rules) c.in-Ok.ensures.captures.2,
       ),
       search rules,

@@ -21,6 +21,6 @@ returns-clause-below g c =
     let others = without c.args.number roster.members.items in
     let low = union_below (count_of roster.shape) others
     (All-filter (λ (m : Membership g.row.Q.Denot). not (m.number == c.args.number)) (λ m. m.mask.bits < 2 ^ count_of roster.shape) roster.members.items
-    (members_below tail.taken tail.lost tail.size roster.shape roster.captures roster.next roster.members.items roster.sound.each)) in
+    (members_below tail roster.shape roster.captures roster.next roster.members.items roster.sound.each)) in
     let both = or_lt (count_of roster.shape) c.args.mask.bits (union_of_all (masks_of others)) c.requires low in
     search rules

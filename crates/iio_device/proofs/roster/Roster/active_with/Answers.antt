@@ -13,7 +13,7 @@ returns-then-is_some-clause-contains g c =
     let tail = g.Q.Tail in
     let roster = c.args.self.now in
     let same : union_of c.args.mask.bits (union_of_all (masks_of roster.members.items)) ≡ union_of_all (masks_of roster.members.items) = search rules in
-    active_within tail.taken tail.lost tail.size roster.shape roster.active roster.captures roster.next c.args.mask.bits roster.members.items
+    active_within tail roster.shape roster.active roster.captures roster.next c.args.mask.bits roster.members.items
     roster.groups.items roster.sound same
 
 pub returns-clause-contains : goal.returns-clause-contains
@@ -31,7 +31,7 @@ returns-clause-below g c =
     let roster = c.args.self.now in
     let low =
     union_below (count_of roster.shape) roster.members.items
-    (members_below tail.taken tail.lost tail.size roster.shape roster.captures roster.next roster.members.items roster.sound.each) in
+    (members_below tail roster.shape roster.captures roster.next roster.members.items roster.sound.each) in
     let both : c.union-wanted.result.bits < 2 ^ count_of roster.shape =
     rw (c.union-wanted.ensures.value, roster.united)
     (or_lt (count_of roster.shape) c.args.mask.bits (union_of_all (masks_of roster.members.items)) c.requires low) in

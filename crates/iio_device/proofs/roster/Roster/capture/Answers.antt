@@ -17,7 +17,7 @@ offer_all-requires-clause-sized g c =
     let tail = g.Q.Tail in
     let roster = c.args.self.now in
     rw (c.deref-2.ensures.value, c.lay_out_all.ensures, c.asked-active.ensures.value)
-    (all_sized tail.taken tail.lost tail.size tail.capacity tail.offer_gives roster.shape roster.active roster.captures roster.next roster.members.items
+    (all_sized tail roster.shape roster.active roster.captures roster.next roster.members.items
     roster.groups.items (take c.args.size c.deref.result.now) roster.sound
     (rw (c.deref.ensures.value) (length-take-le c.args.size roster.room.items c.requires.room ∙ c.requires.size)))
 
@@ -39,12 +39,12 @@ invariant_of-self g c =
       roomy = roster.roomy;
       united =
           roster.united ∙ zip_union
-          (λ a b. WasOffered tail.taken tail.lost tail.size tail.capacity tail.offer_gives
+          (λ a b. WasOffered tail
           (scan_for c.asked-active.result.bits union c.deref-2.result.now a.mask.bits) a b)
           roster.members.items c.offer_all.new.members.items (λ a b r. ap (λ (m : Membership g.row.Q.Denot). m.mask.bits) r.same) c.offer_all.ensures.offered;
       placed = c.offer_all.ensures.placed ∙ roster.placed ∙ length_all_zip _ _ _ c.offer_all.ensures.offered;
       sound = rw (c.lay_out_all.ensures, c.asked-active.ensures.value)
-          (sound_captures tail.taken tail.lost tail.size tail.capacity tail.offer_gives
+          (sound_captures tail
           (λ mask. scan_for c.asked-active.result.bits union c.deref-2.result.now mask) roster.shape roster.active roster.captures
           roster.next roster.members.items c.offer_all.new.members.items roster.groups.items union roster.sound c.offer_all.ensures.offered);
     }
@@ -57,12 +57,12 @@ returns-clause-offered g c =
     let asked = c.asked-active.result.bits in
     let union = take c.args.size c.deref.result.now in
     λ values t wide is.
-    zip_more (λ a b. WasOffered tail.taken tail.lost tail.size tail.capacity tail.offer_gives (scan_for asked union c.deref-2.result.now a.mask.bits) a b)
-    (λ a b. WasOffered tail.taken tail.lost tail.size tail.capacity tail.offer_gives (scan_of roster.shape a.mask.bits values t) a b)
+    zip_more (λ a b. WasOffered tail (scan_for asked union c.deref-2.result.now a.mask.bits) a b)
+    (λ a b. WasOffered tail (scan_of roster.shape a.mask.bits values t) a b)
     (λ (m : Membership g.row.Q.Denot). (has_group roster.groups.items m.mask.bits ≡ true) × (is_within m.mask.bits active ≡ true))
     roster.members.items c.offer_all.new.members.items
     (λ a b own r.
-    subst (λ s. WasOffered tail.taken tail.lost tail.size tail.capacity tail.offer_gives s a b)
+    subst (λ s. WasOffered tail s a b)
     (ap (λ gs. scan_for asked union gs a.mask.bits) (c.deref-2.ensures.value ∙ c.lay_out_all.ensures)
     ∙ rw (c.asked-active.ensures.value)
     (scan_found-is roster.shape active a.mask.bits union roster.groups.items values t roster.sound.grouped.each own.0 own.1 wide
@@ -70,6 +70,6 @@ returns-clause-offered g c =
     c.offer_all.ensures.offered
     (λ k d within. (
       roster.sound.grouped.there k d within,
-      member_within tail.taken tail.lost tail.size tail.capacity tail.offer_gives roster.shape roster.active roster.captures roster.next roster.members.items
+      member_within tail roster.shape roster.active roster.captures roster.next roster.members.items
           roster.groups.items roster.sound k d within,
     ))

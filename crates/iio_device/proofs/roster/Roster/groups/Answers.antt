@@ -7,12 +7,12 @@ overflow_cast-result g c =
     let tail = g.Q.Tail in
     let roster = c.args.self.now in
     let few : length roster.groups.items < 2 ^ 32 =
-    group_few tail.taken tail.lost tail.size roster.shape _ roster.members.items roster.groups.items roster.sound.grouped roster.sound.few in
+    group_few roster.shape _ roster.members.items roster.groups.items roster.sound.grouped roster.sound.few in
     search rules
 
 pub returns : goal.returns
 returns g c =
     let tail = g.Q.Tail in
     let roster = c.args.self.now in
-    let count = group_count tail.taken tail.lost tail.size roster.shape _ roster.members.items roster.groups.items roster.sound.grouped in
+    let count = group_count roster.shape _ roster.members.items roster.groups.items roster.sound.grouped in
     search rules

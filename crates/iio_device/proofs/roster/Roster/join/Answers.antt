@@ -13,7 +13,7 @@ pub remake_for-requires-clause-within : goal.remake_for-requires-clause-within
 remake_for-requires-clause-within g c =
     let tail = g.Q.Tail in
     let roster = c.prepare.new.self in
-    groups_within tail.taken tail.lost tail.size roster.shape _ c.in-Ok.made.0.bits roster.members.items roster.groups.items roster.sound.grouped (search rules)
+    groups_within tail roster.shape _ c.in-Ok.made.0.bits roster.members.items roster.groups.items roster.sound.grouped (search rules)
 
 pub invariant_of-self : goal.invariant_of-self
 invariant_of-self g c =
@@ -25,11 +25,11 @@ invariant_of-self g c =
     let fresh = c.requires.fresh in
     let small : length roster.members.items < 2 ^ 32 - 1 = search rules in
     let longer = length-append roster.members.items (m ∷ []) in
-    let is : IsMember tail.taken tail.lost tail.size roster.shape roster.captures (roster.next + 1) m =
+    let is : IsMember tail roster.shape roster.captures (roster.next + 1) m =
     record { numbered = omega arith; below = search rules; channel = search rules; counted = omega (arith, fresh); sized = search rules } in
     record {
       sound = rw (c.push_reserved.ensures.items, c.add_group.ensures, c.remake_for.ensures.remade)
-          (sound_joins tail.taken tail.lost tail.size roster.shape roster.active c.in-Ok.made.0 roster.captures roster.next roster.members.items
+          (sound_joins tail roster.shape roster.active c.in-Ok.made.0 roster.captures roster.next roster.members.items
           roster.groups.items m c.in-Ok.made.1
           roster.sound found (search rules) (omega (arith, small, longer)) refl is c.in-Ok.ensures.group c.in-Ok.ensures.none);
       sized = c.asked_size_after-size.ensures;

@@ -28,7 +28,7 @@ invariant_of-self-then-is_wanted g c =
       placed = search rules;
       united = roster.united ∙ shared_union members rest c.in_ok-at.at gone within c.remove-tail.ensures.value c.remove-tail.ensures.by_index.2 shared;
       sound =
-          (sound_leaves_shared tail.taken tail.lost tail.size roster.shape roster.active roster.captures roster.next members rest c.in_ok-at.at gone
+          (sound_leaves_shared tail roster.shape roster.active roster.captures roster.next members rest c.in_ok-at.at gone
           roster.groups.items roster.sound
           within c.remove-tail.ensures.value c.remove-tail.ensures.by_index.2 shared).1;
     }
@@ -43,7 +43,7 @@ returns-then-is_wanted g c =
     let within : c.in_ok-at.at < length members = rw (sym c.deref.ensures.value) c.in_ok-at.ensures.within in
     let shared : is_wanted rest gone.mask.bits ≡ true = rw (sym c.deref-2.ensures.value) (sym c.is_wanted.ensures ∙ c.if-is_wanted.true) in
     let ruled =
-    (sound_leaves_shared tail.taken tail.lost tail.size roster.shape roster.active roster.captures roster.next members rest c.in_ok-at.at gone
+    (sound_leaves_shared tail roster.shape roster.active roster.captures roster.next members rest c.in_ok-at.at gone
     roster.groups.items roster.sound
     within c.remove-tail.ensures.value c.remove-tail.ensures.by_index.2 shared).0 in
     let at : (slice_index_or members c.in_ok-at.at gone).number ≡ c.args.number = rw (sym c.deref.ensures.value) (c.in_ok-at.ensures.at gone) in
@@ -69,7 +69,7 @@ active_for-active-requires-clause-each g c =
     rw c.deref-4.ensures.value
     (all_left (λ (m : Membership g.row.Q.Denot). m.mask.bits < 2 ^ count_of roster.shape) members rest c.in_ok-at.at gone within c.remove-tail.ensures.value
     c.remove-tail.ensures.by_index.2
-    (members_below tail.taken tail.lost tail.size roster.shape roster.captures roster.next members roster.sound.each))
+    (members_below tail roster.shape roster.captures roster.next members roster.sound.each))
 
 pub remake_for-requires-clause-within : goal.remake_for-requires-clause-within
 remake_for-requires-clause-within g c =
@@ -88,7 +88,7 @@ remake_for-requires-clause-within g c =
     let contains : IfSome c.active_for-active.result (λ m. is_within (union_of_all (masks_of rest)) m.bits ≡ true) =
     rw (sym c.deref-4.ensures.value) c.active_for-active.ensures.contains in
     some_more (λ m. is_within (union_of_all (masks_of rest)) m.bits ≡ true) _ c.active_for-active.result contains
-    (λ m h. rw kept (kept_within tail.taken tail.lost tail.size rest roster.groups.items m.bits h))
+    (λ m h. rw kept (kept_within tail rest roster.groups.items m.bits h))
 
 pub remake_for-requires-clause-made : goal.remake_for-requires-clause-made
 remake_for-requires-clause-made g c =
@@ -119,7 +119,7 @@ invariant_of-self-2 g c =
       placed = search rules;
       united = c.union_mask-wanted.ensures ∙ ap (λ ms. union_of_all (masks_of ms)) c.deref-3.ensures.value;
       sound = rw (c.remake_for.ensures.remade, kept)
-          (sound_leaves_at tail.taken tail.lost tail.size roster.shape roster.active c.active_for-active.result roster.captures roster.next members rest
+          (sound_leaves_at tail roster.shape roster.active c.active_for-active.result roster.captures roster.next members rest
           c.in_ok-at.at gone roster.groups.items roster.sound within c.remove-tail.ensures.value c.remove-tail.ensures.by_index.2 ruled
           c.active_for-active.ensures.below);
     }

@@ -35,7 +35,7 @@ remake_for-requires-clause-within g c =
     let inside : c.in-Some.at < length roster.members.items = rw (sym same) c.in-Some.ensures.within in
     let number : (slice_index_or roster.members.items c.in-Some.at d).number ≡ c.args.number = rw (sym same) (c.in-Some.ensures.at d) in
     rw (c.keep_wanted.ensures.kept, c.deref-2.ensures.value)
-    (anew_within tail.taken tail.lost tail.size roster.shape roster.active roster.captures roster.next roster.members.items
+    (anew_within tail roster.shape roster.active roster.captures roster.next roster.members.items
     c.begin_anew_at-before.new.members.items c.in-Some.at c.args.number c.args.mask c.args.tail roster.groups.items d
     roster.sound inside number (c.begin_anew_at-before.ensures.members d) c.in-Ok.made.0.bits
     (rw (ap (λ (s : Standing g.row.Q.Denot). s.members) c.prepare_remask.ensures.same) c.in-Ok.ensures.within))
@@ -61,7 +61,7 @@ invariant_of-self-2 g c =
     = c.in-Ok.ensures.active ∙ ap (λ (s : Standing g.row.Q.Denot). active_under c.args.number c.args.mask.bits s) (sym c.prepare_remask.ensures.same) in
     record {
       sound = rw (c.add_group.ensures, c.remake_for.ensures.remade, c.keep_wanted.ensures.kept, c.deref-2.ensures.value)
-          (anew_sound tail.taken tail.lost tail.size roster.shape roster.active roster.captures roster.next roster.members.items
+          (anew_sound tail roster.shape roster.active roster.captures roster.next roster.members.items
           c.begin_anew_at-before.new.members.items c.in-Some.at c.args.number c.args.mask c.args.tail roster.groups.items d
           roster.sound inside number (c.begin_anew_at-before.ensures.members d) c.in-Ok.made.0 c.in-Ok.made.1 found
           (search rules) (search rules) (search rules) (search rules) c.requires.fresh c.in-Ok.ensures.group c.in-Ok.ensures.none);
@@ -86,7 +86,7 @@ returns g c =
     rw (sym c.deref.ensures.value) (c.in-Some.ensures.member d) in
     let after : c.begin_anew_at-before.new.members.items ≡ remasked c.args.number c.args.mask roster.captures c.args.tail roster.members.items
     =
-    anew_members tail.taken tail.lost tail.size roster.shape roster.active roster.captures roster.next roster.members.items
+    anew_members tail roster.shape roster.active roster.captures roster.next roster.members.items
     c.begin_anew_at-before.new.members.items at c.args.number c.args.mask c.args.tail roster.groups.items d
     roster.sound inside number (c.begin_anew_at-before.ensures.members d) in (
       c.in-Ok.ensures.accepted,

@@ -1,16 +1,16 @@
 use Rattle.iio_device.specs.Plug.{driver_of}
-use Rattle.iiod_bank.specs.Lent.{lent_by}
+use Rattle.iio_device.specs.Device.{view_of}
 use Rattle.iiod_bank.proofs.UnplugLaws.{begins, emptied, first_is, goes_on, kept_gone, kept_twice, none_left, smaller}
 use Rattle.iiod_bank.proofs.unplug.UnplugJobDeviceJob.paired.Goals as goal
 
 pub loop-member-init : goal.loop-member-init
 loop-member-init g c =
-    begins (lent_by (driver_of (λ p. (g.dyn-1.0.entry p.vtable).1.driver p.value)) c.unplug-was_plugged.new.self) c.args.trigger.now
+    begins (view_of (driver_of (λ p. (g.dyn-1.0.entry p.vtable).1.driver p.value)) c.unplug-was_plugged.new.self) c.args.trigger.now
 
 pub loop-member-smaller-in-Some-leave : goal.loop-member-smaller-in-Some-leave
 loop-member-smaller-in-Some-leave g c =
-    smaller (lent_by (driver_of (λ p. (g.dyn-1.0.entry p.vtable).1.driver p.value)) c.loop-member.device)
-    (lent_by (driver_of (λ p. (g.dyn-1.0.entry p.vtable).1.driver p.value)) c.leave.new.self) c.loop-member.trigger c.leave.new.trigger c.in-Some.member.number
+    smaller (view_of (driver_of (λ p. (g.dyn-1.0.entry p.vtable).1.driver p.value)) c.loop-member.device)
+    (view_of (driver_of (λ p. (g.dyn-1.0.entry p.vtable).1.driver p.value)) c.leave.new.self) c.loop-member.trigger c.leave.new.trigger c.in-Some.member.number
     c.in-Some-leave.writer (first_is _ _ c.in-Some.member c.first_member.ensures c.in-Some.is) c.in-Some-leave.ensures
 
 pub loop-member-preserved-in-Some-leave : goal.loop-member-preserved-in-Some-leave
