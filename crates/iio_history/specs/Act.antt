@@ -12,7 +12,8 @@ use Rattle.iio_derive.specs.Window.{Window, full_mask, is_filled_by, means_of, s
 use Rattle.iio_device.specs.Site.{is_current, is_empty}
 use Rattle.iiod_grammar.specs.Command.{Place, Open, Close, Read, ReadBuf, SetTrig, Remask, EvOpen, EvRead, EvClose}
 use Rattle.iiod_commands.specs.Attributes.{Assignment, Named, found as found_by, write_found as write_found_by}
-use Rattle.iio_history.specs.Who.{Who, Conn, Inner}
+use Rattle.iio_core.specs.Commands.{evclose_answer, evopen_answer, evread_answer}
+use Rattle.iio_history.specs.Who.{Who, Conn, Inner, same}
 use Rattle.iiod_grammar.specs.Stream.{Item, Said, Written, Streamed, End}
 use Rattle.iio_history.specs.Event.{Event, Heard, Dropped, Handled, Sensed, Unplugged}
 use Rattle.iio_history.specs.Registry.{Setup, Member, Device, Outline, outline_of, Registry, is_member, is_named, buffers_of, is_left_empty}
@@ -194,9 +195,12 @@ item_act s r name (Said (Ok (SetTrig device trigger))) k d =
     only (is_named s device k) (accepted (λ t. Retriggering t) (trigger_answer s (outline_of d) trigger))
 item_act s r name (Said (Ok (Remask device text))) k d =
     only (is_named s device k) (accepted (λ x. Remasking x.member x.mask) (remask_answer d (Conn name) text))
-item_act s r name (Said (Ok (EvOpen device))) k d = only (is_named s device k && d.site.plugged && is_input d.kind) (Holding (Conn name))
-item_act s r name (Said (Ok (EvRead device))) k d = only (is_named s device k && d.site.plugged && is_input d.kind) (Draining (Conn name))
-item_act s r name (Said (Ok (EvClose device))) k d = only (is_named s device k && d.site.plugged && is_input d.kind) (Releasing (Conn name))
+item_act s r name (Said (Ok (EvOpen device))) k d =
+    only (is_named s device k) (accepted (λ opened. Holding (Conn name)) (evopen_answer d.kind d.site))
+item_act s r name (Said (Ok (EvRead device))) k d =
+    only (is_named s device k) (accepted (λ oldest. Draining (Conn name)) (evread_answer d.kind d.site same (Conn name)))
+item_act s r name (Said (Ok (EvClose device))) k d =
+    only (is_named s device k) (accepted (λ closed. Releasing (Conn name)) (evclose_answer d.kind d.site same (Conn name)))
 item_act s r name (End refusal) k d = end_act r name k d
 item_act s r name item k d = Nothing
 

@@ -1,7 +1,7 @@
 -- The answer to an item of a connection, by the state after a history: READBUF and the numbers
 -- of a buffer depend on the member's queue, everything else on the registry. (Commands and
 -- answers: libiio 0.25's iiod; docs/FORMATS.md says which part is this project's own.)
-use Rattle.std.specs.Prelude.{ℕ, ℤ, pos, ◌*◌, ◌/◌, ◌||◌, not, nat_lt, Bool, List, [], ◌∷◌, take, length, Option, Some, None, is_none, slice_get, slice_index_or, Result, Ok, Err, if◌then◌else◌}
+use Rattle.std.specs.Prelude.{ℕ, ℤ, pos, ◌*◌, ◌/◌, ◌||◌, not, nat_lt, Bool, List, [], ◌∷◌, take, length, Option, Some, None, slice_get, slice_index_or, Result, Ok, Err, if◌then◌else◌}
 use Rattle.std.specs.Fmt.{decimal, signed_decimal}
 use Rattle.std.specs.Option.{ok_or}
 use Rattle.iio_base.specs.Refusals.{ensure, ◌>>=◌}
@@ -16,7 +16,7 @@ use Rattle.iiod_grammar.specs.declared.command.Refused.TheVariants.{Empty}
 use Rattle.iiod_grammar.specs.Command.{Place, Help, Version, Print, Timeout, Open, Close, Read, ReadBuf, GetTrig, SetTrig, SetBuffers, Remask, EvOpen, EvRead, EvClose}
 use Rattle.iiod_reply.specs.Reply.{Reply, Nothing, Number, Refusal, Value, Raw, Block}
 use Rattle.iio_desc.specs.Description.{find_device, device_name, trigger_name}
-use Rattle.iio_desc.specs.Kind.{Kind, Output, Average, is_input, is_output}
+use Rattle.iio_desc.specs.Kind.{Kind, Output, Average, is_output}
 use Rattle.iio_output.specs.Written.{is_full, is_standing, taken_of}
 use Rattle.iio_device.specs.Site.{is_empty}
 use Rattle.iiod_commands.specs.Acts.{help_reply, is_buffers_count, version_reply, zero_reply}
@@ -24,7 +24,7 @@ use Rattle.iiod_commands.specs.Attributes.{is_of_buffer, buffer_number as queue_
 use Rattle.iio_history.specs.Who.{Who, Conn, same}
 use Rattle.iiod_grammar.specs.Stream.{Item, Said, Written, Streamed, End}
 use Rattle.iio_event.specs.Code.{event_bytes}
-use Rattle.iio_event.specs.Monitor.{is_holder}
+use Rattle.iio_core.specs.Commands.{evclose_answer, evopen_answer, evread_answer}
 use Rattle.iio_history.specs.Registry.{Setup, outline_of, buffers_of}
 use Rattle.iio_history.specs.Attributes.{value_text}
 use Rattle.iio_history.specs.Opening.{open_answer, remask_answer, write_answer, trigger_answer}
@@ -63,12 +63,6 @@ abbrev pub known_as : (Kind → Bool) → Setup → Told → List ℕ → Result
 known_as knows s m name = do
   x ← known s m name
   plugged ← ensure (knows x.station.kind || x.station.site.plugged) ENODEV
-  own ← ensure (knows x.station.kind) ENOSYS
-  Ok x
-
-abbrev pub there_as : (Kind → Bool) → Setup → Told → List ℕ → Result KnownDevice Errno
-there_as knows s m name = do
-  x ← there s m name
   own ← ensure (knows x.station.kind) ENOSYS
   Ok x
 
@@ -188,17 +182,17 @@ reply s m name (Said (Ok (Remask device text))) = replied (do
   remask ← remask_answer (device_of x.station) (Conn name) text
   Ok zero_reply)
 reply s m name (Said (Ok (EvOpen device))) = replied (do
-  x ← there_as is_input s m device
-  free ← ensure (is_none x.station.site.monitor.holder) EBUSY
+  x ← known s m device
+  opened ← evopen_answer x.station.kind x.station.site
   Ok zero_reply)
 reply s m name (Said (Ok (EvRead device))) = replied (do
-  x ← there_as is_input s m device
-  holder ← ensure (is_holder same (Conn name) x.station.site.monitor) EBADF
-  event ← ok_or (slice_get x.station.site.monitor.events 0) EAGAIN
+  x ← known s m device
+  oldest ← evread_answer x.station.kind x.station.site same (Conn name)
+  event ← ok_or oldest EAGAIN
   Ok (Raw (event_bytes event)))
 reply s m name (Said (Ok (EvClose device))) = replied (do
-  x ← there_as is_input s m device
-  holder ← ensure (is_holder same (Conn name) x.station.site.monitor) EBADF
+  x ← known s m device
+  closed ← evclose_answer x.station.kind x.station.site same (Conn name)
   Ok zero_reply)
 reply s m name (End (Some e)) = Refusal e
 reply s m name item = Nothing

@@ -14,7 +14,7 @@ use Rattle.iio_history.specs.Who.{Who, Conn, Inner, same, is_among}
 use Rattle.iio_history.specs.Event.{Event, Arrived, Heard, Dropped}
 use Rattle.iio_history.specs.Registry.{Setup, Member, Device, Registry, buffers_of, is_member, is_named, without_members}
 use Rattle.iio_history.specs.Opening.{member_asked, open_answer}
-use Rattle.iio_history.specs.Act.{Act, Nothing, inner_member, inner_joins, inner_joining, inners_left, open_act, close_act, end_act, Joining, Leaving, Ending, Reading, Asking, Holding, Draining, Releasing, only, accepted, asking, found, item_act, act_of}
+use Rattle.iio_history.specs.Act.{Act, Nothing, inner_member, inner_joins, inner_joining, inners_left, open_act, close_act, end_act, Joining, Leaving, Ending, Reading, Asking, only, accepted, asking, found, item_act, act_of}
 use Rattle.iio_history.specs.Fold.{members_after, device_after, registry_after, registry_next}
 use Rattle.iio_history.specs.Transcript.{and_then}
 use Rattle.iio_history.proofs.WhoLaws.{same_is, same_sym}
@@ -142,9 +142,9 @@ by_item s r name (Written device (Some target) payload) k d = grind (arith, comm
 by_item s r name (Streamed device payload) k d = search rules
 by_item s r name (Said (Ok (SetTrig device trigger))) k d = search rules
 by_item s r name (Said (Ok (Remask device text))) k d = search rules
-by_item s r name (Said (Ok (EvOpen device))) k d = by_only (Conn name) (is_named s device k && d.site.plugged && is_input d.kind) (Holding (Conn name)) tt
-by_item s r name (Said (Ok (EvRead device))) k d = by_only (Conn name) (is_named s device k && d.site.plugged && is_input d.kind) (Draining (Conn name)) tt
-by_item s r name (Said (Ok (EvClose device))) k d = by_only (Conn name) (is_named s device k && d.site.plugged && is_input d.kind) (Releasing (Conn name)) tt
+by_item s r name (Said (Ok (EvOpen device))) k d = search rules
+by_item s r name (Said (Ok (EvRead device))) k d = search rules
+by_item s r name (Said (Ok (EvClose device))) k d = search rules
 by_item s r name (End refusal) k d = by_ending r name k d
 by_item s r name item k d = tt
 

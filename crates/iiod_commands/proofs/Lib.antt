@@ -8,3 +8,4 @@ pub mod AnswerLaws
 pub mod NameLaws
 pub mod AttributeLaws
 pub mod ShortLaws
+pub mod EventLaws

@@ -20,7 +20,7 @@ use Rattle.iiod_commands.specs.declared.manner.Manner.{Manner}
 use Rattle.iiod_commands.specs.declared.manner.Manner.TheVariants.{Script, Server}
 use Rattle.iiod_commands.specs.declared.manner.Progress.{Progress}
 use Rattle.iiod_commands.specs.declared.manner.Progress.TheVariants.{Done}
-use Rattle.iiod_commands.specs.Acts.{Acted, Acts, act, at_device, refused, retriggered, settled, open_at, close_at, read_at, read_buffer_at, read_attribute_at, ev_close_known, ev_open_known, ev_read_known, get_trigger_at, remask_known, set_buffers_at, set_trigger_at, trigger_named, where_known, write_buffer_at, zero_reply}
+use Rattle.iiod_commands.specs.Acts.{Acted, Acts, act, at_device, refused, retriggered, settled, open_at, close_at, read_at, read_buffer_at, read_attribute_at, ev_close_at, ev_open_at, ev_read_at, get_trigger_at, remask_known, set_buffers_at, set_trigger_at, trigger_named, where_known, write_buffer_at, zero_reply}
 use Rattle.iiod_commands.specs.Answers.{IsAt}
 use Rattle.iiod_commands.specs.Client.{ClientRecord, place_of, with_count, with_holding, without_holding, State, state, Answering, answering}
 use Rattle.iio_core.specs.Front.{Front, find_device, kind_at}
@@ -83,9 +83,9 @@ on_device front m client (GetTrig device) = λ dev. get_trigger_at front m clien
 on_device front m client (SetTrig device name) = λ dev. set_trigger_at front m client name dev
 on_device front m client (SetBuffers device n) = λ dev. set_buffers_at m client n dev
 on_device front m client (Remask device text) = λ dev. remask_known front m client text dev
-on_device front m client (EvOpen device) = λ dev. ev_open_known front m client dev
-on_device front m client (EvRead device) = λ dev. ev_read_known front m client dev
-on_device front m client (EvClose device) = λ dev. ev_close_known front m client dev
+on_device front m client (EvOpen device) = λ dev. ev_open_at front m client dev
+on_device front m client (EvRead device) = λ dev. ev_read_at front m client dev
+on_device front m client (EvClose device) = λ dev. ev_close_at front m client dev
 on_device front m client command = λ dev. refused ENODEV m client
 
 act_at : (front : Front) (m : Machine) (client : ClientRecord) (o : Option ℕ) (command : Command) → IsAt front o command
@@ -296,7 +296,7 @@ serves_get_trigger front a device dev reply e c formed = serves_at front a a (Ge
 -- ---- EVOPEN
 
 pub serves_ev_open : (front : Front) (a b : State) (device : List ℕ) (dev : ℕ) (r : Result ⊤ No) → Some dev ≡ find_device front device
-    → IfSome a.told (λ m. Comes m a.client (ev_open_known front m a.client dev) (reply_by r) b.told b.client)
+    → IfSome a.told (λ m. Comes m a.client (ev_open_at front m a.client dev) (reply_by r) b.told b.client)
     → b.client ≡ client_by (with_holding dev) a.client r → b.traces ≡ a.traces → Serves front a (Said (Ok (EvOpen device))) (reply_by r) b
 serves_ev_open front a b device dev r e c changed t =
     serves_at front a b (EvOpen device) dev (reply_by r) e (rw (sym e) tt) (settles front (Said (Ok (EvOpen device))) r refl) c (moved r changed)
@@ -307,7 +307,7 @@ serves_ev_open front a b device dev r e c changed t =
 -- ---- EVCLOSE
 
 pub serves_ev_close : (front : Front) (a b : State) (device : List ℕ) (dev : ℕ) (r : Result ⊤ No) → Some dev ≡ find_device front device
-    → IfSome a.told (λ m. Comes m a.client (ev_close_known front m a.client dev) (reply_by r) b.told b.client)
+    → IfSome a.told (λ m. Comes m a.client (ev_close_at front m a.client dev) (reply_by r) b.told b.client)
     → b.client ≡ client_by (without_holding dev) a.client r → b.traces ≡ a.traces → Serves front a (Said (Ok (EvClose device))) (reply_by r) b
 serves_ev_close front a b device dev r e c changed t =
     serves_at front a b (EvClose device) dev (reply_by r) e (rw (sym e) tt) (settles front (Said (Ok (EvClose device))) r refl) c (moved r changed)
@@ -318,7 +318,7 @@ serves_ev_close front a b device dev r e c changed t =
 -- ---- EVREAD
 
 pub serves_ev_read : (front : Front) (a : State) (told' : Option Machine) (device : List ℕ) (dev : ℕ) (reply : Reply) → Some dev ≡ find_device front device
-    → IfSome a.told (λ m. Comes m a.client (ev_read_known front m a.client dev) reply told' a.client) → AnswersAs front (Said (Ok (EvRead device))) reply
+    → IfSome a.told (λ m. Comes m a.client (ev_read_at front m a.client dev) reply told' a.client) → AnswersAs front (Said (Ok (EvRead device))) reply
     → Serves front a (Said (Ok (EvRead device))) reply (state told' a.client a.traces)
 serves_ev_read front a told' device dev reply e c formed =
     serves_at front a (state told' a.client a.traces) (EvRead device) dev reply e (rw (sym e) tt) formed c (refl, refl)

@@ -1,5 +1,5 @@
 -- What an item is answered over a told state, and the state after it.
-use Rattle.std.specs.Prelude.{◌≡◌, ℕ, pos, Bool, true, false, not, ◌&&◌, nat_le, nat_lt, codes, ⊤, List, [], ◌∷◌, ◌++◌, take, drop, length, slice_get, slice_set, remove, Option, Some, None, is_some, Result, Ok, Err, if◌then◌else◌}
+use Rattle.std.specs.Prelude.{◌≡◌, ◌==◌, ℕ, pos, Bool, true, false, not, ◌&&◌, nat_le, nat_lt, codes, ⊤, List, [], ◌∷◌, ◌++◌, take, drop, length, slice_get, slice_set, remove, Option, Some, None, is_some, Result, Ok, Err, if◌then◌else◌}
 use Rattle.std.specs.Fmt.{decimal}
 use Rattle.std.specs.Option.{ok_or}
 use Rattle.iio_base.specs.Refusals.{ensure, ◌>>=◌}
@@ -10,6 +10,8 @@ use Rattle.iio_attr.specs.declared.values.Value.{Value as AttrValue}
 use Rattle.iio_desc.specs.Kind.{is_input, is_output}
 use Rattle.iio_device.specs.Site.{is_empty}
 use Rattle.iio_event.specs.Code.{event_bytes}
+use Rattle.iio_event.specs.Monitor.{after_close, after_open, after_read}
+use Rattle.iio_device.specs.Site.{with_monitor}
 use Rattle.iio_event.specs.declared.event.EventData.{EventData}
 use Rattle.iiod_grammar.specs.declared.command.Refused.TheVariants.{Empty}
 use Rattle.iiod_grammar.specs.Command.{Place, Help, Version, Print, Timeout, Open, Close, Read, ReadBuf, GetTrig, SetTrig, SetBuffers, Remask, EvOpen, EvRead, EvClose}
@@ -19,8 +21,8 @@ use Rattle.iiod_commands.specs.declared.client.TheConstants.{MAX_BUFFERS}
 use Rattle.iiod_commands.specs.Attributes.{Assignment, Named, buffer_number, found, is_of_buffer, text_of_value, write_found}
 use Rattle.iio_core.specs.Front.{Front, channel_count, find_device, find_trigger, kind_at, shape_at, size_at, trigger_name}
 use Rattle.iio_core.specs.Machine.{Machine, is_plugged, lost_of, queue_of, station_at, with_queue, with_site, with_station}
-use Rattle.iio_core.specs.Commands.{settrig_answer}
-use Rattle.iio_core.specs.Calls.{CallResult, machine_after_close, ev_close_of, ev_open_of, ev_read_of, open_of, read_attr_of, remask_of, trigger_of, write_attr_of, write_scans_of}
+use Rattle.iio_core.specs.Commands.{evclose_answer, evopen_answer, evread_answer, settrig_answer}
+use Rattle.iio_core.specs.Calls.{CallResult, machine_after_close, ev_close_of, open_of, unless, read_attr_of, remask_of, trigger_of, write_attr_of, write_scans_of}
 use Rattle.iiod_commands.specs.Client.{Wanted, SeatState, ClientRecord, wanted_of, mask_wanted, buffers_of, seat_state_id, seat_state_remasked, place_of, with_count, with_holding, with_seats, without_holding}
 use Rattle.iiod_commands.specs.Reading.{most_scans}
 
@@ -210,34 +212,32 @@ write_buffer_at front m client payload dev =
     if_plugged m client dev (if is_output (kind_at front dev) then write_at_place front m client payload (place_of dev client.seats)
     else refused ENOSYS m client)
 
--- EVOPEN, EVREAD and EVCLOSE
-abbrev pub ev_open_at : Machine → ClientRecord → ℕ → Acted
-ev_open_at m client dev = let o = ev_open_of m dev client.who in altered (with_holding dev) client o.machine o.answer
+-- EVOPEN, EVREAD and EVCLOSE, at a device of any kind
+abbrev pub ev_open_at : Front → Machine → ClientRecord → ℕ → Acted
+ev_open_at front m client dev =
+    let o = unless (with_site (with_monitor (after_open client.who))) dev m (evopen_answer (kind_at front dev) (station_at m dev).site) in
+    altered (with_holding dev) client o.machine o.answer
 
 abbrev pub event_reply : Result (Option EventData) Errno → Reply
 event_reply (Ok None) = Refusal EAGAIN
 event_reply (Ok (Some event)) = Raw (event_bytes event)
 event_reply (Err e) = Refusal e
 
-abbrev pub ev_read_at : Machine → ClientRecord → ℕ → Acted
-ev_read_at m client dev = let o = ev_read_of m dev client.who in record { reply = event_reply o.answer; machine = o.machine; client = client }
+abbrev pub ev_read_at : Front → Machine → ClientRecord → ℕ → Acted
+ev_read_at front m client dev =
+    let o = unless (with_site (with_monitor (after_read (λ a b. a == b) client.who))) dev m
+    (evread_answer (kind_at front dev) (station_at m dev).site (λ a b. a == b) client.who) in
+    record { reply = event_reply o.answer; machine = o.machine; client = client }
 
-abbrev pub ev_close_at : Machine → ClientRecord → ℕ → Acted
-ev_close_at m client dev = if_plugged m client dev (let o = ev_close_of m dev client.who in altered (without_holding dev) client o.machine o.answer)
+abbrev pub ev_close_at : Front → Machine → ClientRecord → ℕ → Acted
+ev_close_at front m client dev =
+    let o = unless (with_site (with_monitor (after_close (λ a b. a == b) client.who))) dev m
+    (evclose_answer (kind_at front dev) (station_at m dev).site (λ a b. a == b) client.who) in
+    altered (without_holding dev) client o.machine o.answer
 
--- ---- the commands above that only devices of some kinds know, at a device of any kind
-
+-- REMASK, which only input devices know, at a device of any kind
 abbrev pub remask_known : Front → Machine → ClientRecord → List ℕ → ℕ → Acted
 remask_known front m client text dev = where_known (is_input (kind_at front dev)) m client dev (remask_at front m client text dev)
-
-abbrev pub ev_open_known : Front → Machine → ClientRecord → ℕ → Acted
-ev_open_known front m client dev = where_known (is_input (kind_at front dev)) m client dev (ev_open_at m client dev)
-
-abbrev pub ev_read_known : Front → Machine → ClientRecord → ℕ → Acted
-ev_read_known front m client dev = where_known (is_input (kind_at front dev)) m client dev (ev_read_at m client dev)
-
-abbrev pub ev_close_known : Front → Machine → ClientRecord → ℕ → Acted
-ev_close_known front m client dev = where_known (is_input (kind_at front dev)) m client dev (ev_close_at m client dev)
 
 -- ---- READ and WRITE
 
@@ -338,9 +338,9 @@ act front m client (Said (Ok (GetTrig device))) = at_device m client (get_trigge
 act front m client (Said (Ok (SetTrig device name))) = at_device m client (set_trigger_at front m client name) (find_device front device)
 act front m client (Said (Ok (SetBuffers device n))) = at_device m client (set_buffers_at m client n) (find_device front device)
 act front m client (Said (Ok (Remask device text))) = at_device m client (remask_known front m client text) (find_device front device)
-act front m client (Said (Ok (EvOpen device))) = at_device m client (ev_open_known front m client) (find_device front device)
-act front m client (Said (Ok (EvRead device))) = at_device m client (ev_read_known front m client) (find_device front device)
-act front m client (Said (Ok (EvClose device))) = at_device m client (ev_close_known front m client) (find_device front device)
+act front m client (Said (Ok (EvOpen device))) = at_device m client (ev_open_at front m client) (find_device front device)
+act front m client (Said (Ok (EvRead device))) = at_device m client (ev_read_at front m client) (find_device front device)
+act front m client (Said (Ok (EvClose device))) = at_device m client (ev_close_at front m client) (find_device front device)
 act front m client (Said (Err Empty)) = only Nothing m client
 act front m client (Said (Err why)) = refused EINVAL m client
 act front m client (End error) = ended front m client error

@@ -1,7 +1,7 @@
 //! The commands of threshold events: EVOPEN, EVREAD and EVCLOSE.
 
 ghost use Rattle.std.specs.Prelude.{◌≡◌, ◌==◌, ◌<◌, length, filter, not, IfSome};
-ghost use Rattle.iiod_commands.specs.Acts.{ev_close_known, ev_open_known, ev_read_known};
+ghost use Rattle.iiod_commands.specs.Acts.{ev_close_at, ev_open_at, ev_read_at};
 ghost use Rattle.iiod_commands.specs.Answers.{IsEvent, reply_of};
 ghost use Rattle.iiod_commands.specs.Client.{IsClient, client_of, with_holding, without_holding};
 ghost use Rattle.iiod_commands.specs.Performs.{Comes, client_by, reply_by};
@@ -24,7 +24,7 @@ pub(crate) fn ev_open_known<I: Iio>(
     ensures kept { I.kept iio.new ≡ I.kept iio.old }
     ensures client { IsClient I.seen (I.front (I.kept iio.new)) client.new }
     ensures told { IfSome (I.told iio.old) (λ m. Comes m (client_of I.seen client.old)
-        (ev_open_known (I.front (I.kept iio.old)) m (client_of I.seen client.old) dev) (reply_by result) (I.told iio.new) (client_of I.seen client.new)) }
+        (ev_open_at (I.front (I.kept iio.old)) m (client_of I.seen client.old) dev) (reply_by result) (I.told iio.new) (client_of I.seen client.new)) }
     ensures alters { client_of I.seen client.new ≡ client_by (with_holding dev) (client_of I.seen client.old) result }
     ensures held { client.new.held ≡ client.old.held }
 {
@@ -55,7 +55,7 @@ pub(crate) fn ev_close_known<I: Iio>(
     ensures kept { I.kept iio.new ≡ I.kept iio.old }
     ensures client { IsClient I.seen (I.front (I.kept iio.new)) client.new }
     ensures told { IfSome (I.told iio.old) (λ m. Comes m (client_of I.seen client.old)
-        (ev_close_known (I.front (I.kept iio.old)) m (client_of I.seen client.old) dev) (reply_by result) (I.told iio.new) (client_of I.seen client.new)) }
+        (ev_close_at (I.front (I.kept iio.old)) m (client_of I.seen client.old) dev) (reply_by result) (I.told iio.new) (client_of I.seen client.new)) }
     ensures alters { client_of I.seen client.new ≡ client_by (without_holding dev) (client_of I.seen client.old) result }
     ensures held { client.new.held ≡ client.old.held }
 {
@@ -78,7 +78,7 @@ pub(crate) fn ev_read_known<I: Iio>(
     ensures kept { I.kept iio.new ≡ I.kept iio.old }
     ensures event { IsEvent result }
     ensures told { IfSome (I.told iio.old) (λ m. Comes m (client_of I.seen client.now)
-        (ev_read_known (I.front (I.kept iio.old)) m (client_of I.seen client.now) dev)
+        (ev_read_at (I.front (I.kept iio.old)) m (client_of I.seen client.now) dev)
         (reply_of (I.front (I.kept iio.old)) result) (I.told iio.new) (client_of I.seen client.now)) }
 {
     if !is_input(iio, dev) {
