@@ -3,25 +3,14 @@ use Rattle.std.proofs.Common.{◌≡◌, ℕ, zero, suc, ◌+◌, ◌-◌, ◌�
 use Rattle.std.proofs.lemmas.Grind.{common_steps}
 use Rattle.std.specs.List.{range_with_len}
 use Rattle.std.proofs.lemmas.Bool.{cases_Bool}
-use Rattle.std.proofs.lemmas.Bool.Decides.{nat_tests}
 use Rattle.iio_demux.specs.declared.table.Entry.{Entry}
 use Rattle.iio_demux.specs.Table.{AreInOrder, AreMerged, byte_at, continues, copied, covers, joined, merged, merged_before, source_of}
 
 -- ---- where an entry continues another
 
-pub continues_tells : (entry next : Entry) → continues entry next ≡ true → (entry.from + entry.length ≡ next.from) × (entry.to + entry.length ≡ next.to)
-continues_tells entry next goes_on = grind (arith, nat_tests)
-
--- an entry continues two joined entries exactly if it continues the second
-continues_joined : (entry next last : Entry) → continues entry next ≡ true → continues (joined entry next) last ≡ continues next last
-continues_joined entry next last goes_on = let at = continues_tells entry next goes_on in grind (arith, nat_tests, at)
-
 -- an entry is continued by two joined entries exactly if the first of them continues it
 continues_first : (entry next last : Entry) → continues entry (joined next last) ≡ continues entry next
 continues_first entry next last = refl
-
-joined_joined : (a b c : Entry) → joined (joined a b) c ≡ joined a (joined b c)
-joined_joined a b c = search rules
 
 -- ---- another entry
 
@@ -30,9 +19,6 @@ abbrev pub with_last : List Entry → Entry → List Entry
 with_last [] entry = entry ∷ []
 with_last (last ∷ []) entry = cond (continues last entry) (joined last entry ∷ []) (last ∷ entry ∷ [])
 with_last (first ∷ next ∷ later) entry = first ∷ with_last (next ∷ later) entry
-
-one_before_last : (entry one last : Entry) → merged_before entry (with_last (one ∷ []) last) ≡ with_last (merged_before entry (one ∷ [])) last
-one_before_last entry one last = search rules
 
 before_last : (entry : Entry) (others : List Entry) (last : Entry) → merged_before entry (with_last others last) ≡ with_last (merged_before entry others) last
 before_last entry others last = search rules
@@ -99,11 +85,6 @@ merged_in_order active_size buffer_size low (entry ∷ others) order =
 pub byte_at-cons : (entry : Entry) (entries : List Entry) (scan : List ℕ) (j : ℕ)
     → byte_at (entry ∷ entries) scan j ≡ cond (covers entry j) (source_of entry scan j) (byte_at entries scan j)
 byte_at-cons entry entries scan j = elim (cases_Bool (covers entry j)) [ inl own ↦ rw own refl | inr other ↦ rw other refl ]
-
--- two joined entries have the bytes of both
-joined_byte : (entry next : Entry) (later : List Entry) (scan : List ℕ) (j : ℕ) → continues entry next ≡ true
-    → byte_at (joined entry next ∷ later) scan j ≡ byte_at (entry ∷ next ∷ later) scan j
-joined_byte entry next later scan j goes_on = search rules
 
 before_byte : (entry : Entry) (others : List Entry) (scan : List ℕ) (j : ℕ) → byte_at (merged_before entry others) scan j ≡ byte_at (entry ∷ others) scan j
 before_byte entry others scan j = search rules

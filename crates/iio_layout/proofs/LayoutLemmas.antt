@@ -1,5 +1,5 @@
 -- Places, sizes and scans: bounds, another channel, and the timestamp.
-use Rattle.std.proofs.Common.{◌≡◌, ◌≢◌, ℕ, ◌+◌, ◌-◌, ◌*◌, ◌/◌, ◌%◌, ◌^◌, ◌<◌, ◌≤◌, max, true, false, List, [], ◌∷◌, ◌++◌, length, map, take, Some, ℤ, refl, ap, ◌∙◌, inl, inr, arith, add-one, rules}
+use Rattle.std.proofs.Common.{◌≡◌, ◌≢◌, ℕ, ◌+◌, ◌-◌, ◌*◌, ◌/◌, ◌%◌, ◌^◌, ◌<◌, ◌≤◌, max, true, List, [], ◌∷◌, ◌++◌, length, map, take, Some, ℤ, refl, ap, ◌∙◌, inl, inr, arith, add-one, rules}
 use Rattle.std.proofs.lemmas.Grind.{common_steps}
 use Rattle.std.specs.Int.{IsPowerOfTwo, next_multiple_of}
 use Rattle.std.proofs.lemmas.Bool.{cases_lt, cases_eq}
@@ -13,7 +13,7 @@ use Rattle.iio_scan_type.specs.declared.TheConstants.{MAX_CHANNEL_SIZE}
 use Rattle.std.proofs.Math.Seq.{take-append-add}
 use borrow.Rule.Slice.PartMut.{put_mid}
 use Rattle.iio_layout.specs.declared.channel.Channel.{Channel}
-use Rattle.iio_layout.specs.Layout.{end_below, format_at, largest_below, scan_size, size_at}
+use Rattle.iio_layout.specs.Layout.{end_below, format_at, scan_size, size_at}
 use Rattle.iio_layout.specs.Scan.{capture_values, field_of, values_at}
 use Rattle.iio_layout.specs.Shape.{ShapeRecord, count_of, formats_of, stamp_formats, width_of}
 use Rattle.iio_layout.specs.Laws.{count_is, end_grows}
@@ -88,23 +88,6 @@ end-few end size k power some within few = next_multiple-le end size (MAX_CHANNE
 pub next_end : (formats : List Format) (mask c : ℕ) → has mask c ≡ true
     → next_multiple_of (end_below formats mask c) (size_at formats c) + size_at formats c ≡ end_below formats mask (c + 1)
 next_end formats mask c selected = rw (add-one, selected) refl
-
--- a selected channel ends after its place; any other takes no room
-pub end_more : (formats : List Format) (mask n end place size : ℕ) → has mask n ≡ true → end ≡ end_below formats mask n → size ≡ size_at formats n
-    → place ≡ next_multiple_of end size → place + size ≡ end_below formats mask (n + 1)
-end_more formats mask n end place size selected is_end is_size is_place = rw (is_place, is_end, is_size, add-one, selected) refl
-
-pub end_same : (formats : List Format) (mask n end : ℕ) → has mask n ≡ false → end ≡ end_below formats mask n → end ≡ end_below formats mask (n + 1)
-end_same formats mask n end other is_end = rw (is_end, add-one, other) refl
-
--- the largest size of the channels up to a channel, selected or not
-pub largest_more : (formats : List Format) (mask n largest size : ℕ) → has mask n ≡ true → largest ≡ largest_below formats mask n → size ≡ size_at formats n
-    → max largest size ≡ largest_below formats mask (n + 1)
-largest_more formats mask n largest size selected is_largest is_size = rw (is_largest, is_size, add-one, selected) refl
-
-pub largest_same : (formats : List Format) (mask n largest : ℕ) → has mask n ≡ false → largest ≡ largest_below formats mask n
-    → largest ≡ largest_below formats mask (n + 1)
-largest_same formats mask n largest other is_largest = rw (is_largest, add-one, other) (omega arith)
 
 -- the larger of two powers of two is a power of two, even if the first is 0
 pub max-power : (largest size : ℕ) → (largest ≢ 0 → IsPowerOfTwo largest) → IsPowerOfTwo size → max largest size ≢ 0 → IsPowerOfTwo (max largest size)

@@ -1,5 +1,5 @@
 -- A scan as it is filled: channel by channel of the mask.
-use Rattle.std.proofs.Common.{◌≡◌, ℕ, zero, suc, ◌+◌, ◌-◌, ◌%◌, ◌^◌, ◌<◌, ◌≤◌, true, false, cond, List, [], ◌∷◌, ◌++◌, refl, sym, ap, ◌∙◌, inl, inr, arith, append-nil, bit_and, rules}
+use Rattle.std.proofs.Common.{◌≡◌, ℕ, zero, suc, ◌+◌, ◌-◌, ◌%◌, ◌^◌, ◌<◌, ◌≤◌, max, Bool, true, false, cond, length, length-append, List, [], ◌∷◌, ◌++◌, refl, sym, ap, ◌∙◌, inl, inr, arith, append-nil, bit_and, rules}
 use Rattle.std.specs.Prelude.{filter}
 use Rattle.std.specs.List.{range_with_len}
 use Rattle.std.specs.Int.{IsPowerOfTwo, next_multiple_of}
@@ -9,7 +9,7 @@ use Rattle.std.proofs.lemmas.Nat.{and_mask}
 use Rattle.std.proofs.lemmas.Nat.Bits.{bit_at_above}
 use Rattle.iio_mask.specs.Mask.{channels_below, channels_of, has}
 use Rattle.iio_scan_type.specs.Format.{Format}
-use Rattle.iio_layout.specs.Layout.{end_below, size_at}
+use Rattle.iio_layout.specs.Layout.{end_below, largest_below, size_at}
 use Rattle.iio_layout.specs.Scan.{field_at, front_below, padded}
 use Rattle.iio_layout.proofs.SelectedLemmas.{range_more}
 use Rattle.std.specs.Prelude.{ℤ}
@@ -54,6 +54,11 @@ abbrev pub end_over : List Format → ℕ → List ℕ → ℕ
 end_over formats end [] = end
 end_over formats end (c ∷ cs) = end_over formats (next_multiple_of end (size_at formats c) + size_at formats c) cs
 
+-- the size of the largest of these channels, and of others of which the largest has this size
+abbrev pub largest_over : List Format → ℕ → List ℕ → ℕ
+largest_over formats largest [] = largest
+largest_over formats largest (c ∷ cs) = largest_over formats (max largest (size_at formats c)) cs
+
 -- these channels, appended to the bytes before them
 abbrev pub front_over : List Format → List ℤ → List ℕ → List ℕ → List ℕ
 front_over formats values front [] = front
@@ -75,6 +80,49 @@ front_over-append formats values front (c ∷ cs) ds = front_over-append formats
 pub end_over-all : (formats : List Format) (mask n : ℕ) → end_over formats 0 (channels_below mask n) ≡ end_below formats mask n
 end_over-all formats mask zero = refl
 end_over-all formats mask (suc n) = search (rules, channels_more, end_over-append, end_over-all formats mask n)
+
+largest_over-append : (formats : List Format) (largest : ℕ) (cs ds : List ℕ)
+    → largest_over formats largest (cs ++ ds) ≡ largest_over formats (largest_over formats largest cs) ds
+largest_over-append formats largest [] ds = refl
+largest_over-append formats largest (c ∷ cs) ds = largest_over-append formats (max largest (size_at formats c)) cs ds
+
+pub largest_over-all : (formats : List Format) (mask n : ℕ) → largest_over formats 0 (channels_below mask n) ≡ largest_below formats mask n
+largest_over-all formats mask zero = refl
+largest_over-all formats mask (suc n) =
+    ap (largest_over formats 0) (channels_more mask n)
+    ∙ largest_over-append formats 0 (channels_below mask n) (cond (has mask n) (n ∷ []) [])
+    ∙ by (has mask n)
+    ∙ ap (λ (k : ℕ). max k (cond (has mask n) (size_at formats n) 0)) (largest_over-all formats mask n)
+  where
+    by : (b : Bool) → largest_over formats (largest_over formats 0 (channels_below mask n)) (cond b (n ∷ []) [])
+        ≡ max (largest_over formats 0 (channels_below mask n)) (cond b (size_at formats n) 0)
+    by true = refl
+    by false = omega arith
+
+-- a mask has no more channels than bits
+pub channels_few : (mask n : ℕ) → length (channels_below mask n) ≤ n
+channels_few mask zero = omega arith
+channels_few mask (suc n) =
+    let few = channels_few mask n in
+    rw (channels_more mask n, length-append (channels_below mask n) (cond (has mask n) (n ∷ []) [])) (one (length (channels_below mask n)) n (has mask n) few)
+  where
+    one : (k m : ℕ) (b : Bool) → k ≤ m → k + length (cond b (m ∷ []) []) ≤ suc m
+    one k m true few = omega (arith, few)
+    one k m false few = omega (arith, few)
+
+no_more : (xs : List ℕ) (b : Bool) (n : ℕ) → xs ++ cond b (n ∷ []) [] ≡ [] → (xs ≡ []) × (b ≡ false)
+no_more [] b n e = search rules
+no_more (x ∷ xs) b n e = cc
+
+-- a mask without channels has none of them
+pub channels_none : (mask n c : ℕ) → channels_below mask n ≡ [] → c < n → has mask c ≡ false
+channels_none mask zero c none below = absurd (omega (arith, below))
+channels_none mask (suc n) c none below =
+    let parts = no_more (channels_below mask n) (has mask n) n (sym (channels_more mask n) ∙ none) in
+    elim (cases_lt c n) [
+      | inl less ↦ channels_none mask n c parts.0 less
+      | inr last ↦ let same : c ≡ n = omega (arith, below, last) in rw same parts.1
+    ]
 
 pub front_over-all : (formats : List Format) (values : List ℤ) (mask n : ℕ)
     → front_over formats values [] (channels_below mask n) ≡ front_below formats mask values n

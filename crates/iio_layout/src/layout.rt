@@ -79,20 +79,19 @@ struct Extent {
 
 // The extent of the channels that the mask selects.
 fn extent_of(shape: &Shape, mask: Mask) -> Extent
+    requires { mask.bits < 2 ^ count_of shape.now }
     ensures end { result.end ≡ end_below (formats_of shape.now) mask.bits (count_of shape.now) }
     ensures largest { result.largest ≡ largest_below (formats_of shape.now) mask.bits (count_of shape.now) }
     ensures few { result.end ≤ MAX_CHANNEL_SIZE * count_of shape.now }
-    ensures fits { MAX_CHANNEL_SIZE * count_of shape.now < 2 ^ 32 }
+    ensures fits { result.largest ≢ 0 → MAX_CHANNEL_SIZE * count_of shape.now < 2 ^ 32 }
     ensures small { result.largest ≤ MAX_CHANNEL_SIZE }
     ensures power { result.largest ≢ 0 → IsPowerOfTwo result.largest }
     ensures some { (k : ℕ) → k < count_of shape.now → has mask.bits k ≡ true → 1 ≤ result.end }
 {
     let mut end: u32 = 0;
     let mut largest: u32 = 0;
-    for c in 0..shape.count() {
-        if !mask.contains(c) {
-            continue;
-        }
+    let mut rest = mask;
+    while let Some(c) = rest.pop_first() {
         let size = shape.scan_type(c).size();
         end = aligned(end, size) + size;
         largest = largest.max(size);

@@ -60,10 +60,6 @@ scans_of-append size xs ys some whole whole' =
     ap (λ k. scans_in k size (xs ++ ys)) (counts_of size (length (xs ++ ys)) (m + n) some both)
     ∙ scans_in-append m n size xs ys first
 
--- no bytes are no scans
-pub scans_of-none : (size : ℕ) → 1 ≤ size → scans_of size [] ≡ []
-scans_of-none size some = let none : 0 ≡ 0 * size = omega arith in ap (λ k. scans_in k size []) (counts_of size 0 0 some none)
-
 pub one_scan : (size : ℕ) (scan : List ℕ) → 1 ≤ size → length scan ≡ size → scans_of size scan ≡ scan ∷ []
 one_scan size scan some is =
     let one : length scan ≡ 1 * size = omega (arith, is) in

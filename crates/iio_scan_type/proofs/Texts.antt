@@ -4,12 +4,10 @@ use Rattle.std.proofs.lemmas.Option.{same_Some, cond_some, option_and_then_some}
 use Rattle.std.proofs.lemmas.Fmt.{decimal_digit, decimal_step}
 use Rattle.std.proofs.lemmas.Bool.Decides.{nat_tests}
 use Rattle.std.specs.Fmt.{decimal}
-use Rattle.iio_scan_type.specs.Text.{after_byte, either_at, endian_at, endian_text, sign_at, sign_text, is_digit, is_empty, second_digit, small_at, repeat_at, repeat_text, shift_at, profiled, type_of, short_text, IsTypeText}
+use Rattle.iio_scan_type.specs.Text.{after_byte, endian_at, endian_text, sign_at, sign_text, is_digit, is_empty, second_digit, small_at, repeat_at, repeat_text, shift_at, profiled, type_of, short_text, IsTypeText}
 use Rattle.iio_scan_type.specs.Format.{Format, IsInProfile, in_profile}
 use Rattle.iio_scan_type.specs.declared.Sign.{Sign}
-use Rattle.iio_scan_type.specs.declared.Sign.TheVariants.{Signed, Unsigned}
 use Rattle.iio_scan_type.specs.declared.Endian.{Endian}
-use Rattle.iio_scan_type.specs.declared.Endian.TheVariants.{Big, Little}
 use Rattle.iio_scan_type.proofs.Numbers.{bounds_of}
 
 -- ---- numbers of one or two digits
@@ -32,20 +30,8 @@ chosen b x y z h j k = search rules
 after_byte_takes : (c : ℕ) (text rest : List ℕ) → after_byte c text ≡ Some rest → text ≡ c ∷ rest
 after_byte_takes c text rest h = search rules
 
-either_takes : {A : Type 0} (c : ℕ) (x : A) (d : ℕ) (y : A) (spell : A → ℕ) → spell x ≡ c → spell y ≡ d → (text : List ℕ) (p : A × List ℕ)
-    → either_at c x d y text ≡ Some p → text ≡ spell p.0 ∷ p.1
-either_takes c x d y spell ex ey text p h = search rules
-
-abbrev first_of_endian : Endian → ℕ
-first_of_endian Big = 98
-first_of_endian Little = 108
-
 endian_takes : (text : List ℕ) (p : Endian × List ℕ) → endian_at text ≡ Some p → text ≡ endian_text p.0 ++ p.1
 endian_takes text p h = search rules
-
-abbrev first_of_sign : Sign → ℕ
-first_of_sign Signed = 115
-first_of_sign Unsigned = 117
 
 sign_takes : (text : List ℕ) (p : Sign × List ℕ) → sign_at text ≡ Some p → text ≡ sign_text p.0 ++ p.1
 sign_takes text p h = search rules
@@ -120,12 +106,6 @@ starts_digit (b ∷ bs) = is_digit b
 abbrev starts_repeat : List ℕ → Bool
 starts_repeat [] = false
 starts_repeat (b ∷ bs) = b == 88
-
-second_again : (x : ℕ) (rest : List ℕ) → starts_digit rest ≡ false → second_digit x rest ≡ (x, rest)
-second_again x rest h = search rules
-
-glyph_is_digit : (x : ℕ) → x < 10 → is_digit (48 + x) ≡ true
-glyph_is_digit x h = grind (arith, nat_tests)
 
 one_again : (x : ℕ) (rest : List ℕ) → x < 10 → starts_digit rest ≡ false → small_at ((48 + x) ∷ rest) ≡ Some (x, rest)
 one_again x rest small h = search rules

@@ -86,7 +86,8 @@ fn push_field(out: &mut Vec<u8>, shape: &Shape, mask: Mask, scan: &[u8], c: u32)
 fn push_fields(out: &mut Vec<u8>, shape: &Shape, mask: Mask, scan: &[u8]) -> Result<(), Mem>
     requires below { mask.bits < 2 ^ count_of shape.now }
     requires size { length scan.now ≡ scan_size shape.now mask.bits }
-    ensures { OnOk result (out.new.items ≡ out.old.items ++ flat_map (field_text shape.now mask.bits scan.now) (channels_below mask.bits (count_of shape.now))) }
+    ensures { OnOk result (out.new.items ≡ out.old.items
+        ++ flat_map (field_text shape.now mask.bits scan.now) (channels_below mask.bits (count_of shape.now))) }
 {
     for c in 0..shape.count() {
         if mask.contains(c) {

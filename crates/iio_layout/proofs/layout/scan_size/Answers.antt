@@ -10,7 +10,7 @@ aligned-requires-clause-fits c =
     let few =
     end-few c.extent_of-end.result.end c.extent_of-end.result.largest (count_of c.args.shape.now) (made.power c.if-largest-eq0.false) (omega arith) made.small
     made.few in
-    omega (arith, few, made.fits)
+    omega (arith, few, made.fits c.if-largest-eq0.false)
 
 pub returns-else-largest-eq0-clause-few : goal.returns-else-largest-eq0-clause-few
 returns-else-largest-eq0-clause-few c =
