@@ -1,5 +1,5 @@
 -- What the entries of two masks make of a scan: the scan of the same capture under the other mask.
-use Rattle.std.proofs.Common.{◌≡◌, ℕ, ℤ, zero, suc, ◌+◌, ◌-◌, ◌<◌, ◌≤◌, true, false, List, length, get_or, map, filter, sym, ◌∙◌, inl, inr, arith, IsTrue, rules}
+use Rattle.std.proofs.Common.{◌≡◌, ℕ, ℤ, zero, suc, ◌+◌, ◌<◌, ◌≤◌, true, false, List, length, get_or, map, filter, sym, ◌∙◌, inl, inr, arith, IsTrue, rules}
 use Rattle.std.specs.List.{range_with_len}
 use Rattle.std.proofs.lemmas.Bool.{cases_Bool, cases_eq, false≢true}
 use Rattle.std.proofs.lemmas.List.FromFn.{fill_by_all}

@@ -4,7 +4,7 @@
 use Rattle.std.specs.Prelude.{◌≡◌, ℕ, ◌+◌, ◌-◌, ◌≤◌, ◌&&◌, ◌==◌, nat_le, nat_lt, Bool, false, if◌then◌else◌, List, [], ◌∷◌, map, find, slice_index}
 use Rattle.std.specs.List.{range_with_len}
 use Rattle.std.specs.Option.{option_map_or}
-use Rattle.iio_mask.specs.Mask.{has, channels_below}
+use Rattle.iio_mask.specs.Mask.{channels_below}
 use Rattle.iio_layout.specs.Shape.{ShapeRecord, count_of, formats_of}
 use Rattle.iio_layout.specs.Layout.{place_of, scan_size, size_at}
 use Rattle.iio_demux.specs.declared.table.Entry.{Entry}

@@ -202,6 +202,7 @@ fn ends_before(mask: Mask, c: u32) -> bool
 // Adds the entries of all channels of the buffer's mask, each of which is in the active mask, and returns the size of the
 // buffer's scan. Nothing past the last of these channels is looked at.
 fn push_entries(shape: &Shape, active: Mask, buffer: Mask, entries: &mut Vec<Entry>) -> u32
+    requires below { active.bits < 2 ^ count_of shape.now }
     requires within { (c : ℕ) → IsTrue (has buffer.bits c) → IsTrue (has active.bits c) }
     requires none { entries.old.items ≡ [] }
     requires room { MAX_CHANNELS ≤ vec_capacity entries.old }
@@ -212,12 +213,10 @@ fn push_entries(shape: &Shape, active: Mask, buffer: Mask, entries: &mut Vec<Ent
     let mut active_end: u32 = 0;
     let mut buffer_end: u32 = 0;
     let mut buffer_largest: u32 = 0;
-    for c in 0..shape.count() {
+    let mut rest = active;
+    while let Some(c) = rest.pop_first() {
         if ends_before(buffer, c) {
             return padded_size(buffer_end, buffer_largest);
-        }
-        if !active.contains(c) {
-            continue;
         }
         let length = shape.scan_type(c).size();
         let from = aligned(active_end, length);
