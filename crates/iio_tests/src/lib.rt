@@ -1,4 +1,4 @@
-//! Tests of texts, scans and devices, by subject, each through the public calls of one of the lower crates.
+//! Tests of texts, links, scans and devices, by subject, each through the public calls of one of the lower crates.
 #![tactic(auto)]
 
 #[cfg(test)]

@@ -88,38 +88,6 @@ fn take(
     (taken == Some(true), room)
 }
 
-// Adds a member, and checks its number.
-fn check_join(
-    rt: &impl Abort,
-    device: &mut Average,
-    mask: u64,
-    size: usize,
-    most: u64,
-    number: u32,
-) -> Result<(), Fail>
-    requires { AreTested most size device.old.seats }
-    ensures { AreTested most size device.new.seats }
-{
-    let given = join(rt, device, mask, size, most)?;
-    assert_eq!(rt; given, number);
-    Ok(())
-}
-
-// Removes a member, and checks whether it was there.
-fn check_leave(
-    rt: &impl Abort,
-    device: &mut Average,
-    number: u32,
-    size: usize,
-    most: u64,
-    is_there: bool,
-)
-    requires { AreTested most size device.old.seats }
-    ensures { AreTested most size device.new.seats }
-{
-    assert_eq!(rt; device.leave(number), is_there);
-}
-
 // Adds a capture, and checks how many members are offered a mean, if any is made.
 fn check_add(
     rt: &impl Abort,
@@ -230,41 +198,98 @@ fn ends_of_values(rt: HostRuntime) -> Result<(), Fail> {
     Ok(())
 }
 
+// What is done at a device, and what is expected of it.
+#[derive(Clone, Copy)]
+enum Step {
+    // Under a mask; the number that is given.
+    Join(u64, u32),
+    // Whether the member was there.
+    Leave(u32, bool),
+    // Values and their moment; how many members are offered a mean, if any is made.
+    Add([i64; 3], i64, Option<u32>),
+    // A member's oldest scan.
+    Take(u32, &'static [u8]),
+    TakeNone(u32),
+    // How many scans of a member wait, and how many it lost.
+    Queue(u32, Option<u32>, Option<u64>),
+    HasMember(bool),
+}
+
+// Plays the steps at a device of this window, whose members' scans have four bytes.
+fn play(rt: &impl Abort, alloc: Global, window: u32, steps: &[Step]) -> Result<(), Fail>
+    requires low { 2 ≤ window }
+    requires high { window ≤ 1000 }
+{
+    let mut device = device(alloc, TYPES, window, 4)?;
+    let mut adds = 0u64;
+    for step in steps {
+        match *step {
+            Step::Join(mask, number) => {
+                let given = join(rt, &mut device, mask, 4, adds)?;
+                assert_eq!(rt; given, number);
+            }
+            Step::Leave(number, is_there) => assert_eq!(rt; device.leave(number), is_there),
+            Step::Add(values, t, made) => {
+                assert!(rt; adds < 1000);
+                check_add(rt, &mut device, values, t, 4, adds, made);
+                adds += 1;
+            }
+            Step::Take(number, scan) => check_take(rt, &mut device, number, 4, adds, scan),
+            Step::TakeNone(number) => {
+                let (given, _) = take(rt, &mut device, number, 4, adds);
+                assert!(rt; !given);
+            }
+            Step::Queue(number, waiting, lost) => {
+                assert_eq!(rt;
+                    (device.waiting(number), device.lost(number)),
+                    (waiting, lost)
+                );
+            }
+            Step::HasMember(has) => assert_eq!(rt; device.has_member(), has),
+        }
+    }
+    Ok(())
+}
+
 // A second member joins within a window, and is offered that window's mean too. A full queue loses what it is offered.
 #[test]
 fn two_members(rt: HostRuntime) -> Result<(), Fail> {
-    let mut device = device(rt.alloc(), TYPES, 2, 4)?;
-    check_join(&rt, &mut device, 5, 4, 0, 0)?;
-    check_add(&rt, &mut device, [1, 2, -3], 1000, 4, 0, None);
-    check_join(&rt, &mut device, 3, 4, 1, 1)?;
-    check_add(&rt, &mut device, [4, 2, -4], 2000, 4, 1, Some(2));
-    check_take(&rt, &mut device, 1, 4, 2, b"\x20\x00\x02\x00");
-    check_add(&rt, &mut device, [8, 0, 0], 3000, 4, 2, None);
-    check_add(&rt, &mut device, [9, 0, 0], 4000, 4, 3, Some(2));
-    assert_eq!(rt; (device.lost(0), device.lost(1)), (Some(1), Some(0)));
-    check_take(&rt, &mut device, 0, 4, 4, b"\x20\x00\xff\xfd");
-    check_take(&rt, &mut device, 1, 4, 4, b"\x80\x00\x00\x00");
-    assert!(rt; !take(&rt, &mut device, 1, 4, 4).0);
-    Ok(())
+    let steps = [
+        Step::Join(5, 0),
+        Step::Add([1, 2, -3], 1000, None),
+        Step::Join(3, 1),
+        Step::Add([4, 2, -4], 2000, Some(2)),
+        Step::Take(1, b"\x20\x00\x02\x00"),
+        Step::Add([8, 0, 0], 3000, None),
+        Step::Add([9, 0, 0], 4000, Some(2)),
+        Step::Queue(0, Some(1), Some(1)),
+        Step::Queue(1, Some(1), Some(0)),
+        Step::Take(0, b"\x20\x00\xff\xfd"),
+        Step::Take(1, b"\x80\x00\x00\x00"),
+        Step::TakeNone(1),
+    ];
+    play(&rt, rt.alloc(), 2, &steps)
 }
 
 // When the last member leaves, the window begins anew; a free number is given again.
 #[test]
 fn window_anew(rt: HostRuntime) -> Result<(), Fail> {
-    let mut device = device(rt.alloc(), TYPES, 3, 4)?;
-    assert!(rt; !device.has_member() && !device.leave(0));
-    check_join(&rt, &mut device, 5, 4, 0, 0)?;
-    check_add(&rt, &mut device, [100, 0, 100], 1000, 4, 0, None);
-    check_join(&rt, &mut device, 5, 4, 1, 1)?;
-    check_leave(&rt, &mut device, 0, 4, 1, true);
-    assert_eq!(rt; (device.waiting(0), device.lost(0)), (None, None));
-    check_add(&rt, &mut device, [100, 0, 100], 2000, 4, 1, None);
-    check_leave(&rt, &mut device, 1, 4, 2, true);
-    check_leave(&rt, &mut device, 1, 4, 2, false);
-    check_join(&rt, &mut device, 5, 4, 2, 0)?;
-    check_add(&rt, &mut device, [1, 0, -1], 3000, 4, 2, None);
-    check_add(&rt, &mut device, [1, 0, -1], 4000, 4, 3, None);
-    check_add(&rt, &mut device, [6, 0, 0], 5000, 4, 4, Some(1));
-    check_take(&rt, &mut device, 0, 4, 5, b"\x20\x00\x00\x00");
-    Ok(())
+    let steps = [
+        Step::HasMember(false),
+        Step::Leave(0, false),
+        Step::Join(5, 0),
+        Step::Add([100, 0, 100], 1000, None),
+        Step::Join(5, 1),
+        Step::Leave(0, true),
+        Step::Queue(0, None, None),
+        Step::Add([100, 0, 100], 2000, None),
+        Step::Leave(1, true),
+        Step::Leave(1, false),
+        Step::Join(5, 0),
+        Step::Add([1, 0, -1], 3000, None),
+        Step::Add([1, 0, -1], 4000, None),
+        Step::Add([6, 0, 0], 5000, Some(1)),
+        Step::Take(0, b"\x20\x00\x00\x00"),
+    ];
+    play(&rt, rt.alloc(), 3, &steps)
 }

@@ -1,32 +1,18 @@
 //! Thresholds and events. Expected values are by hand, after docs/FORMATS.md.
 ghost use Rattle.std.specs.Prelude.{◌≡◌, length, IfOk};
 
+use crate::tests::fixtures::voltage;
 use iio_event::{Edge, EventData, Monitor, code};
-use iio_layout::{Channel, Direction, Kind, Shape, Suffix};
-use iio_scan_type::{Endian, ScanType, Sign};
+use iio_layout::{Kind, Shape, Suffix};
 use std::alloc::Global;
 use std::process::Abort;
 use std::test::Fail;
-
-fn voltage(number: u16, ty: ScanType) -> Channel {
-    Channel {
-        kind: Kind::Voltage,
-        suffix: Suffix::Number(number),
-        direction: Direction::Input,
-        ty,
-    }
-}
-
-fn byte_type() -> Result<ScanType, Fail> {
-    Ok(ScanType::new(Sign::Unsigned, 8, 8, 0, 1, Endian::Little).ok_or("no type")?)
-}
 
 // The monitor of a device with voltage0 and voltage1.
 fn two_voltages(alloc: Global) -> Result<Monitor, Fail>
     ensures { IfOk result (λ m. length m.channels ≡ 2) }
 {
-    let ty = byte_type()?;
-    let channels = vec![in alloc; voltage(0, ty), voltage(1, ty)]?;
+    let channels = vec![in alloc; voltage(0, "le:u8/8>>0")?, voltage(1, "le:u8/8>>0")?]?;
     let shape = Shape::new(channels, None, Vec::new(alloc)).ok_or("no shape")?;
     Ok(Monitor::new(alloc, &shape)?)
 }

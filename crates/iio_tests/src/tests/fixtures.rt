@@ -3,20 +3,28 @@
 ghost use Rattle.std.specs.Prelude.{◌^◌, ◌<◌, IfOk};
 ghost use Rattle.iio_layout.specs.Shape.{count_of};
 
-use iio_layout::{Channel, Direction, Kind, Shape, Suffix};
+use iio_layout::{Channel, Direction, Shape, Suffix, read_id};
 use iio_mask::Mask;
 use iio_scan_type::read_type;
 use std::process::Abort;
 use std::test::Fail;
 
-/// An input channel of that type.
-pub(crate) fn voltage(number: u16, ty: &str) -> Result<Channel, Fail> {
+/// An input channel of that ID and type.
+pub(crate) fn channel(id: &str, ty: &str) -> Result<Channel, Fail> {
+    let (kind, suffix) = read_id(id.as_bytes()).ok_or("no ID")?;
     Ok(Channel {
-        kind: Kind::Voltage,
-        suffix: Suffix::Number(number),
+        kind,
+        suffix,
         direction: Direction::Input,
         ty: read_type(ty.as_bytes()).ok_or("no type")?,
     })
+}
+
+/// The input channel `voltageN` of this number and type.
+pub(crate) fn voltage(number: u16, ty: &str) -> Result<Channel, Fail> {
+    let mut voltage = channel("voltage", ty)?;
+    voltage.suffix = Suffix::Number(number);
+    Ok(voltage)
 }
 
 /// The mask that a text says, for the channels of a shape.

@@ -3,26 +3,15 @@
 ghost use Rattle.std.specs.Prelude.{◌^◌, ◌<◌};
 ghost use Rattle.iio_layout.specs.Shape.{count_of};
 
-use crate::tests::fixtures::mask_of;
+use crate::tests::fixtures::{channel, mask_of, voltage};
 use iio_layout::{
     Channel, Direction, Kind, Shape, Suffix, fill, place, read_id, scan_size, write_id,
 };
 use iio_mask::Mask;
-use iio_scan_type::{Endian, read_type};
+use iio_scan_type::Endian;
 use std::alloc::Global;
 use std::process::Abort;
 use std::test::Fail;
-
-// A channel of that ID and type.
-fn channel(id: &str, ty: &str) -> Result<Channel, Fail> {
-    let (kind, suffix) = read_id(id.as_bytes()).ok_or("no ID")?;
-    Ok(Channel {
-        kind,
-        suffix,
-        direction: Direction::Input,
-        ty: read_type(ty.as_bytes()).ok_or("no type")?,
-    })
-}
 
 // voltage0, voltage1, accel_x and a timestamp.
 fn adc(alloc: Global) -> Result<Shape, Fail> {
@@ -43,9 +32,7 @@ fn voltages(
 ) -> Result<Option<Shape>, Fail> {
     let mut channels = Vec::new(alloc);
     for number in 0..count {
-        let mut next = channel("voltage", ty)?;
-        next.suffix = Suffix::Number(number);
-        channels.push(next)?;
+        channels.push(voltage(number, ty)?)?;
     }
     Ok(Shape::new(channels, stamp, Vec::new(alloc)))
 }

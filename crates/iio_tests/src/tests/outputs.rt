@@ -2,10 +2,10 @@
 ghost use Rattle.std.specs.Prelude.{◌≡◌, ◌≤◌, ◌<◌, ◌^◌, length, IfOk};
 ghost use Rattle.iio_layout.specs.Shape.{count_of};
 
-use iio_layout::{Channel, Direction, Kind, Shape, Suffix, scan_size};
+use crate::tests::fixtures::voltage;
+use iio_layout::{Channel, Direction, Shape, scan_size};
 use iio_mask::Mask;
 use iio_output::{Next, Out, OutFault, Wrote};
-use iio_scan_type::{Endian, ScanType, Sign};
 use std::alloc::Global;
 use std::process::Abort;
 use std::test::Fail;
@@ -13,34 +13,31 @@ use std::test::Fail;
 // What is done at a device, and what is expected of it.
 #[derive(Clone, Copy)]
 enum Step {
+    // Under a mask, with a capacity, cyclic or not.
+    Start(u64, u32, bool, Result<(), OutFault>),
     Write(&'static [u8], Wrote),
     Given(&'static [u8]),
     Underrun,
     Waiting(u32),
+    // Of both channels.
+    Last(i64, i64),
+    Mask(Option<Mask>),
+    Stop,
 }
 
-fn voltage(number: u16, ty: ScanType) -> Channel {
-    Channel {
-        kind: Kind::Voltage,
-        suffix: Suffix::Number(number),
-        direction: Direction::Output,
-        ty,
-    }
+fn output(number: u16, ty: &str) -> Result<Channel, Fail> {
+    let mut output = voltage(number, ty)?;
+    output.direction = Direction::Output;
+    Ok(output)
 }
 
-// The types `le:u16/16>>0` and `be:s12/16X2>>4`.
-fn types() -> Result<(ScanType, ScanType), Fail> {
-    let first = ScanType::new(Sign::Unsigned, 16, 16, 0, 1, Endian::Little).ok_or("no type")?;
-    let second = ScanType::new(Sign::Signed, 12, 16, 4, 2, Endian::Big).ok_or("no type")?;
-    Ok((first, second))
-}
-
-// A device with voltage0 and voltage1 of these types.
+// A device with voltage0 and voltage1.
 fn two_voltages(alloc: Global) -> Result<Out, Fail>
     ensures { IfOk result (λ o. length o.shape.channels ≡ 2) }
 {
-    let (first, second) = types()?;
-    let channels = vec![in alloc; voltage(0, first), voltage(1, second)]?;
+    let first = output(0, "le:u16/16>>0")?;
+    let second = output(1, "be:s12/16X2>>4")?;
+    let channels = vec![in alloc; first, second]?;
     let shape = Shape::new(channels, None, Vec::new(alloc)).ok_or("no shape")?;
     Ok(Out::new(alloc, shape)?)
 }
@@ -81,14 +78,19 @@ fn next(rt: &impl Abort, device: &mut Out) -> (Next, usize, [u8; 8])
     (answer, size, room)
 }
 
-// Plays the steps at a writer of voltage0, and returns how many of them were underruns.
-fn play(rt: &impl Abort, device: &mut Out, steps: &[Step]) -> u64
+// Plays the steps, and checks after each of them how many underruns there were since the last start.
+fn play(rt: &impl Abort, device: &mut Out, steps: &[Step])
     requires { length device.old.shape.channels ≡ 2 }
-    ensures { length device.new.shape.channels ≡ 2 }
 {
     let mut underruns = 0u64;
     for step in steps {
         match *step {
+            Step::Start(mask, capacity, cyclic, want) => {
+                assert_eq!(rt; start(rt, device, mask, capacity, cyclic), want);
+                if want.is_ok() {
+                    underruns = 0;
+                }
+            }
             Step::Write(bytes, want) => {
                 assert!(rt; device.mask().is_some());
                 assert_eq!(rt; device.write(bytes), want);
@@ -104,21 +106,29 @@ fn play(rt: &impl Abort, device: &mut Out, steps: &[Step]) -> u64
                 underruns = underruns.saturating_add(1);
             }
             Step::Waiting(want) => assert_eq!(rt; device.waiting(), want),
+            Step::Last(first, second) => {
+                assert_eq!(rt; (device.last(0), device.last(1)), (first, second));
+            }
+            Step::Mask(want) => assert_eq!(rt; device.mask(), want),
+            Step::Stop => device.stop(),
         }
+        assert_eq!(rt; device.underruns(), underruns);
     }
-    underruns
 }
 
-// Plays each row at a writer of its own, whose scans have two bytes; at most two scans wait.
-fn play_all(rt: &impl Abort, alloc: Global, cyclic: bool, rows: &[&[Step]]) -> Result<(), Fail> {
+// Plays each row at a device of its own.
+fn play_all(rt: &impl Abort, alloc: Global, rows: &[&[Step]]) -> Result<(), Fail> {
     for steps in rows {
         let mut device = two_voltages(alloc)?;
-        assert_eq!(rt; start(rt, &mut device, 1, 2, cyclic), Ok(()));
-        let underruns = play(rt, &mut device, steps);
-        assert_eq!(rt; device.underruns(), underruns);
+        play(rt, &mut device, steps);
     }
     Ok(())
 }
+
+// A writer of voltage0, whose scans have two bytes, and of which at most two wait.
+const PLAIN: Step = Step::Start(1, 2, false, Ok(()));
+
+const CYCLIC: Step = Step::Start(1, 2, true, Ok(()));
 
 // Scans are given in order, and then comes an underrun. The first scans that fit are taken, and none of a payload that isn't
 // whole scans, even if no scan fits.
@@ -126,6 +136,7 @@ fn play_all(rt: &impl Abort, alloc: Global, cyclic: bool, rows: &[&[Step]]) -> R
 fn playback(rt: HostRuntime) -> Result<(), Fail> {
     let rows: [&[Step]; 3] = [
         &[
+            PLAIN,
             Step::Write(b"\x01\x00\x02\x00", Wrote::Bytes(4)),
             Step::Waiting(2),
             Step::Given(b"\x01\x00"),
@@ -134,6 +145,7 @@ fn playback(rt: HostRuntime) -> Result<(), Fail> {
             Step::Underrun,
         ],
         &[
+            PLAIN,
             Step::Write(b"", Wrote::Bytes(0)),
             Step::Write(b"\x01", Wrote::BadSize),
             Step::Underrun,
@@ -147,9 +159,9 @@ fn playback(rt: HostRuntime) -> Result<(), Fail> {
             Step::Given(b"\x06\x00"),
             Step::Underrun,
         ],
-        &[Step::Waiting(0), Step::Underrun, Step::Underrun],
+        &[PLAIN, Step::Waiting(0), Step::Underrun, Step::Underrun],
     ];
-    play_all(&rt, rt.alloc(), false, &rows)
+    play_all(&rt, rt.alloc(), &rows)
 }
 
 // A cycle is given round and round, and written once. It has at least one scan, and at most as many as the capacity.
@@ -157,6 +169,7 @@ fn playback(rt: HostRuntime) -> Result<(), Fail> {
 fn cyclic_writers(rt: HostRuntime) -> Result<(), Fail> {
     let rows: [&[Step]; 2] = [
         &[
+            CYCLIC,
             Step::Write(b"\x01\x00\x02\x00", Wrote::Bytes(4)),
             Step::Given(b"\x01\x00"),
             Step::Given(b"\x02\x00"),
@@ -166,6 +179,7 @@ fn cyclic_writers(rt: HostRuntime) -> Result<(), Fail> {
             Step::Given(b"\x02\x00"),
         ],
         &[
+            CYCLIC,
             Step::Underrun,
             Step::Write(b"", Wrote::BadSize),
             Step::Write(b"\x01\x00\x02", Wrote::BadSize),
@@ -179,56 +193,48 @@ fn cyclic_writers(rt: HostRuntime) -> Result<(), Fail> {
             Step::Given(b"\x08\x00"),
         ],
     ];
-    play_all(&rt, rt.alloc(), true, &rows)
+    play_all(&rt, rt.alloc(), &rows)
 }
 
 // Element 0 of each channel, in the last scan given that has the channel. Under both channels voltage1 stands at byte 4.
 #[test]
 fn last_of_each_channel(rt: HostRuntime) -> Result<(), Fail> {
-    let mut device = two_voltages(rt.alloc())?;
-    assert_eq!(rt; (device.last(0), device.last(1)), (0, 0));
-    assert_eq!(rt; start(&rt, &mut device, 3, 1, false), Ok(()));
-    let written = Step::Write(b"\x01\x02\xff\xff\x80\x0f\x00\x10", Wrote::Bytes(8));
-    assert_eq!(rt; play(&rt, &mut device, &[written]), 0);
-    assert_eq!(rt; (device.last(0), device.last(1)), (0, 0));
-    let given = Step::Given(b"\x01\x02\xff\xff\x80\x0f\x00\x10");
-    assert_eq!(rt; play(&rt, &mut device, &[given, Step::Underrun]), 1);
-    assert_eq!(rt; (device.last(0), device.last(1)), (0x201, -2048));
-    device.stop();
-    assert_eq!(rt; start(&rt, &mut device, 2, 1, true), Ok(()));
-    let cycle = [
+    let rows: [&[Step]; 1] = [&[
+        Step::Last(0, 0),
+        Step::Start(3, 1, false, Ok(())),
+        Step::Write(b"\x01\x02\xff\xff\x80\x0f\x00\x10", Wrote::Bytes(8)),
+        Step::Last(0, 0),
+        Step::Given(b"\x01\x02\xff\xff\x80\x0f\x00\x10"),
+        Step::Underrun,
+        Step::Last(0x201, -2048),
+        Step::Stop,
+        Step::Start(2, 1, true, Ok(())),
         Step::Write(b"\x7f\xf0\x00\x00", Wrote::Bytes(4)),
         Step::Given(b"\x7f\xf0\x00\x00"),
-    ];
-    assert_eq!(rt; play(&rt, &mut device, &cycle), 0);
-    assert_eq!(rt; (device.last(0), device.last(1)), (0x201, 2047));
-    Ok(())
+        Step::Last(0x201, 2047),
+    ]];
+    play_all(&rt, rt.alloc(), &rows)
 }
 
 // There is one writer at a time; its end drops what waits, and the next one's underruns are counted from 0 again.
 #[test]
 fn one_writer_at_a_time(rt: HostRuntime) -> Result<(), Fail> {
-    let mut device = two_voltages(rt.alloc())?;
-    assert_eq!(rt; (device.mask(), device.waiting()), (None, 0));
-    device.stop();
-    assert_eq!(rt; start(&rt, &mut device, 1, 65_536, false), Ok(()));
-    assert_eq!(rt; start(&rt, &mut device, 2, 1, true), Err(OutFault::Busy));
-    assert_eq!(rt; device.mask(), Some(Mask { bits: 1 }));
-    let steps = [
+    let rows: [&[Step]; 1] = [&[
+        Step::Mask(None),
+        Step::Waiting(0),
+        Step::Stop,
+        Step::Start(1, 65_536, false, Ok(())),
+        Step::Start(2, 1, true, Err(OutFault::Busy)),
+        Step::Mask(Some(Mask { bits: 1 })),
         Step::Underrun,
         Step::Write(b"\x01\x00\x02\x00", Wrote::Bytes(4)),
         Step::Given(b"\x01\x00"),
-    ];
-    assert_eq!(rt; play(&rt, &mut device, &steps), 1);
-    device.stop();
-    assert_eq!(rt;
-        (device.mask(), device.waiting(), device.underruns()),
-        (None, 0, 1)
-    );
-    assert_eq!(rt; start(&rt, &mut device, 2, 1, true), Ok(()));
-    assert_eq!(rt;
-        (device.waiting(), device.underruns(), device.last(0)),
-        (0, 0, 1)
-    );
-    Ok(())
+        Step::Stop,
+        Step::Mask(None),
+        Step::Waiting(0),
+        Step::Start(2, 1, true, Ok(())),
+        Step::Waiting(0),
+        Step::Last(1, 0),
+    ]];
+    play_all(&rt, rt.alloc(), &rows)
 }

@@ -1,5 +1,5 @@
 use Rattle.std.proofs.Common.{arith}
-use Rattle.iiod_client_tests.proofs.tests.readings.ask_under.Goals as goal
+use Rattle.iiod_tests.proofs.tests.readings.ask_under.Goals as goal
 
 pub returns : goal.returns
 returns c = record {

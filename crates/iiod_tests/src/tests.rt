@@ -1,16 +1,26 @@
-//! Hubs and servers. Each test with threads ends by itself, after a limited number of turns, and none depends on the order in
-//! which threads run.
+//! Hubs and servers, what a client makes of their answers, and the program's words over sources and sinks in memory. The
+//! expected texts were written by hand. Each test with threads ends by itself, after a limited number of turns, and none
+//! depends on the order in which threads run. Scripts are played in `iio_script_tests`.
 
 mod asked;
 mod connections;
 mod doubles;
+mod gen_words;
 mod hubs;
+mod inputs;
+mod layout_words;
 mod playback;
+mod playing;
+mod readdev_words;
 mod reading;
+mod readings;
 mod remasking;
+mod replies;
 mod serve_words;
 mod serving;
 mod sessions;
+mod solo_words;
+mod words;
 
 ghost use Rattle.std.specs.Prelude.{◌≡◌, ◌+◌, ◌-◌, ◌^◌, ◌<◌, ◌≤◌, IfOk, OnOk, ⊤};
 ghost use Rattle.iio_desc.specs.DescReader.{drivers_of, line_count};

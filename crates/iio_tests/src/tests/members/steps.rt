@@ -4,7 +4,7 @@ ghost use Rattle.std.specs.Prelude.{◌≡◌, ◌+◌, ◌^◌, ◌<◌, IfOk};
 ghost use Rattle.iio_layout.specs.Layout.{scan_size};
 ghost use Rattle.iio_layout.specs.Shape.{count_of};
 
-use crate::tests::devices::device_of;
+use crate::tests::members::devices::device_of;
 use iio_device::{Device, Handled, JoinRefused, Member, RemaskFault, RemaskRefused};
 use iio_kfifo::{Kfifo, Tail};
 use iio_layout::{Shape, scan_size};

@@ -1,6 +1,6 @@
 //! Members that exchange their masks.
 
-use crate::tests::steps::{Act, Sight, Step, check_steps};
+use crate::tests::members::steps::{Act, Sight, Step, check_steps};
 use iio_device::RemaskFault;
 use std::test::Fail;
 

@@ -1,6 +1,6 @@
 //! The masks of a device's members.
 
-use crate::tests::steps::{Act, Sight, Step, check_steps};
+use crate::tests::members::steps::{Act, Sight, Step, check_steps};
 use std::test::Fail;
 
 // Equal masks count once, and each counts until its last member has left.
