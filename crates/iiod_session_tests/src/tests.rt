@@ -1,40 +1,29 @@
 //! A session over the shelf.
 
-ghost use Rattle.std.specs.Prelude.{◌≡◌, ◌+◌, ◌-◌, ◌^◌, ◌<◌, ◌≤◌, IfOk, OnOk};
-ghost use Rattle.iio_desc.specs.DescReader.{drivers_of, line_count};
+ghost use Rattle.std.specs.Prelude.{IfOk};
 ghost use Rattle.iio_desc.specs.WellFormed.{IsWellFormed};
 ghost use Rattle.iiod_bank.specs.FrontOf.{front_of};
 ghost use Rattle.iiod_commands.specs.Client.{IsClient};
 ghost use Rattle.iiod_session_tests.specs.Shelf.{seen_of};
 
 use crate::shelf::{Shelf, ShelfSeat};
-use iio_desc::{Desc, DescReader};
+use iio_desc::{Desc, read_desc};
 use iiod_session::{Going, Manner, Seen, Session, Watch};
 use std::alloc::Global;
 use std::process::Abort;
 use std::test::Fail;
 
-// Reads a line of a description. The contract says nothing of what the line means.
-fn read_line(reader: &mut DescReader, line: &[u8]) -> Result<(), Fail>
-    requires { line_count reader.old < 2 ^ 32 - 2 }
-    ensures counted { line_count reader.new ≤ line_count reader.old + 1 }
-    ensures drivers { OnOk result (drivers_of reader.new ≡ drivers_of reader.old) }
-{
-    reader.line(line)?;
-    Ok(())
-}
-
 // Describes a device with two channels of one byte each.
 fn described(alloc: Global) -> Result<Desc, Fail>
     ensures { IfOk result (λ desc. IsWellFormed 0 desc) }
 {
-    let mut reader = DescReader::new(alloc, 0)?;
-    read_line(&mut reader, b"trigger t0 1")?;
-    read_line(&mut reader, b"device adc0 t0")?;
-    read_line(&mut reader, b"channel voltage0 le:u8/8>>0")?;
-    read_line(&mut reader, b"channel voltage1 le:u8/8>>0")?;
-    read_line(&mut reader, b"row 0 1 2")?;
-    Ok(reader.finish()?)
+    let text = b"trigger t0 1
+device adc0 t0
+channel voltage0 le:u8/8>>0
+channel voltage1 le:u8/8>>0
+row 0 1 2
+";
+    Ok(read_desc(alloc, text, 0)?)
 }
 
 // Creates a shelf on which these scans wait.
@@ -46,26 +35,8 @@ fn shelf_of(alloc: Global, scans: &[&[u8]]) -> Result<Shelf, Fail> {
     Ok(shelf)
 }
 
-// The bytes received, and the bytes answered.
-type Exchange<'a> = (&'a [u8], &'a [u8]);
-
-// Three seats one after another, in pieces that end within lines and contain many.
-const EXCHANGES: [Exchange<'static>; 5] = [
-    (b"OPEN adc0 2 000", b""),
-    (b"00003\nREADBUF adc0 4\nREADB", b"0\n4\n00000003\naAbB"),
-    (
-        b"UF adc0 7\nREADBUF adc0 1\nREAD adc0 BUFFER length\nCLOSE adc0\nSET adc0 BUFFERS_COUNT 1\n",
-        b"6\n00000003\ncCdDeE0\n0\n1\n8\n0\n0\n",
-    ),
-    (
-        b"OPEN adc0 3 00000002\nREADBUF adc0 9\nREAD adc0 BUFFER length\nCLOSE adc0\nCLOSE adc0\nCLOSE adc1\n",
-        b"0\n2\n00000002\nxy0\n1\n3\n0\n-9\n-19\n",
-    ),
-    (
-        b"OPEN adc0 1 00000003\nREADBUF adc0 99\nREADBUF adc0 2\nREADBUF adc0 2\n",
-        b"0\n2\n00000003\nfF0\n2\n00000003\ngG",
-    ),
-];
+// The bytes received, the bytes answered, and how the connection then stands.
+type Exchange<'a> = (&'a [u8], &'a [u8], Going);
 
 // Feeds a piece, and checks the answers and how the connection then stands.
 fn hear(
@@ -74,17 +45,31 @@ fn hear(
     session: &mut Session<ShelfSeat>,
     shelf: &mut Shelf,
     exchange: Exchange<'_>,
-    going: Going,
 ) -> Result<(), Fail>
     requires { IsClient seen_of (front_of shelf.old.front) session.old.client }
-    ensures client { IsClient seen_of (front_of shelf.new.front) session.new.client }
-    ensures front { front_of shelf.new.front ≡ front_of shelf.old.front }
+    ensures { IsClient seen_of (front_of shelf.new.front) session.new.client }
 {
-    let (piece, answers) = exchange;
+    let (piece, answers, going) = exchange;
     let mut out = Vec::new(alloc);
     let now = session.feed(alloc, shelf, piece, &mut out)?;
     assert_eq!(rt; out.as_slice(), answers, "after {piece:?}");
     assert_eq!(rt; now, going, "after {piece:?}");
+    Ok(())
+}
+
+fn hear_all(
+    rt: &impl Abort,
+    alloc: Global,
+    session: &mut Session<ShelfSeat>,
+    shelf: &mut Shelf,
+    exchanges: &[Exchange<'_>],
+) -> Result<(), Fail>
+    requires { IsClient seen_of (front_of shelf.old.front) session.old.client }
+    ensures { IsClient seen_of (front_of shelf.new.front) session.new.client }
+{
+    for exchange in exchanges {
+        hear(rt, alloc, session, shelf, *exchange)?;
+    }
     Ok(())
 }
 
@@ -101,62 +86,77 @@ fn lists(alloc: Global, closed: &[Vec<Vec<u8>>]) -> Result<Vec<u8>, Fail> {
     Ok(text)
 }
 
+// Returns the scans that the seats of a session had given, of those that wait on a shelf.
+fn lists_after(
+    rt: &impl Abort,
+    alloc: Global,
+    scans: &[&[u8]],
+    exchanges: &[Exchange<'_>],
+) -> Result<Vec<u8>, Fail> {
+    let mut shelf = shelf_of(alloc, scans)?;
+    let mut session = Session::new(alloc, 3, Manner::Server)?;
+    hear_all(rt, alloc, &mut session, &mut shelf, exchanges)?;
+    session.end(&mut shelf);
+    lists(alloc, &shelf.closed)
+}
+
+// Three seats one after another, in pieces that end within lines and contain many. The last READBUF waits.
+const EXCHANGES: &[Exchange<'static>] = &[
+    (b"OPEN adc0 2 000", b"", Going::On),
+    (
+        b"00003\nREADBUF adc0 4\nREADB",
+        b"0\n4\n00000003\naAbB",
+        Going::On,
+    ),
+    (
+        b"UF adc0 7\nREADBUF adc0 1\nREAD adc0 BUFFER length\nCLOSE adc0\nSET adc0 BUFFERS_COUNT 1\n",
+        b"6\n00000003\ncCdDeE0\n0\n1\n8\n0\n0\n",
+        Going::On,
+    ),
+    (
+        b"OPEN adc0 3 00000002\nREADBUF adc0 9\nREAD adc0 BUFFER length\nCLOSE adc0\nCLOSE adc0\nCLOSE adc1\n",
+        b"0\n2\n00000002\nxy0\n1\n3\n0\n-9\n-19\n",
+        Going::On,
+    ),
+    (
+        b"OPEN adc0 1 00000003\nREADBUF adc0 99\nREADBUF adc0 2\nREADBUF adc0 2\n",
+        b"0\n2\n00000003\nfF0\n2\n00000003\ngG",
+        Going::Waits(0),
+    ),
+];
+
+// The data of each seat's READBUFs are the scans that it gave, and its mask and capacity are those of its OPEN.
+#[test]
+fn data_are_what_the_seats_gave(rt: HostRuntime) -> Result<(), Fail> {
+    let scans: [&[u8]; 9] = [b"aA", b"bB", b"cC", b"dD", b"eE", b"x", b"y", b"fF", b"gG"];
+    let given = lists_after(&rt, rt.alloc(), &scans, EXCHANGES)?;
+    assert_eq!(rt;
+        given.as_slice(),
+        b"aA bB cC dD eE \nx y \nfF gG \n".as_slice()
+    );
+    Ok(())
+}
+
 // A seat that gets another mask: the scans that it gives from then on are a list of their own.
-const REMASKED: [Exchange<'static>; 2] = [
+const REMASKED: &[Exchange<'static>] = &[
     (
         b"OPEN adc0 2 00000003\nREADBUF adc0 2\nREMASK adc0 00000002\n",
         b"0\n2\n00000003\naA0\n",
+        Going::On,
     ),
     (
         b"READBUF adc0 2\nREAD adc0 BUFFER discarded\n",
         b"2\n00000002\nxy1\n2\n",
+        Going::On,
     ),
 ];
 
 // The data after a REMASK are the scans that the seat has given since then, under its new mask.
 #[test]
 fn a_remask_begins_the_data_anew(rt: HostRuntime) -> Result<(), Fail> {
-    let alloc = rt.alloc();
     let scans: [&[u8]; 3] = [b"aA", b"x", b"y"];
-    let mut shelf = shelf_of(alloc, &scans)?;
-    let mut a = Session::new(alloc, 3, Manner::Server)?;
-    hear(&rt, alloc, &mut a, &mut shelf, REMASKED[0], Going::On)?;
-    hear(&rt, alloc, &mut a, &mut shelf, REMASKED[1], Going::On)?;
-    a.end(&mut shelf);
-    let lists = lists(alloc, &shelf.closed)?;
-    assert_eq!(rt; lists.as_slice(), b"aA \nx y \n".as_slice());
-    Ok(())
-}
-
-// Feeds all the exchanges, the last of which ends with a READBUF that waits.
-fn hear_all(
-    rt: &impl Abort,
-    alloc: Global,
-    session: &mut Session<ShelfSeat>,
-    shelf: &mut Shelf,
-) -> Result<(), Fail>
-    requires { IsClient seen_of (front_of shelf.old.front) session.old.client }
-    ensures { IsClient seen_of (front_of shelf.new.front) session.new.client }
-{
-    hear(rt, alloc, session, shelf, EXCHANGES[0], Going::On)?;
-    hear(rt, alloc, session, shelf, EXCHANGES[1], Going::On)?;
-    hear(rt, alloc, session, shelf, EXCHANGES[2], Going::On)?;
-    hear(rt, alloc, session, shelf, EXCHANGES[3], Going::On)?;
-    hear(rt, alloc, session, shelf, EXCHANGES[4], Going::Waits(0))
-}
-
-// The data of each seat's READBUFs are the scans that it gave, and its mask and capacity are those of its OPEN.
-#[test]
-fn data_are_what_the_seats_gave(rt: HostRuntime) -> Result<(), Fail> {
-    let alloc = rt.alloc();
-    let scans: [&[u8]; 9] = [b"aA", b"bB", b"cC", b"dD", b"eE", b"x", b"y", b"fF", b"gG"];
-    let mut shelf = shelf_of(alloc, &scans)?;
-    let mut session = Session::new(alloc, 3, Manner::Server)?;
-    hear_all(&rt, alloc, &mut session, &mut shelf)?;
-    session.end(&mut shelf);
-    let lists = lists(alloc, &shelf.closed)?;
-    let given = b"aA bB cC dD eE \nx y \nfF gG \n";
-    assert_eq!(rt; lists.as_slice(), given.as_slice());
+    let given = lists_after(&rt, rt.alloc(), &scans, REMASKED)?;
+    assert_eq!(rt; given.as_slice(), b"aA \nx y \n".as_slice());
     Ok(())
 }
 
@@ -204,28 +204,73 @@ impl Watch<Shelf> for Letters {
     }
 }
 
+// Feeds bytes to a watched session, and checks how it then stands, and all that the watch was told.
+fn hear_watched(
+    rt: &impl Abort,
+    alloc: Global,
+    session: &mut Session<ShelfSeat>,
+    shelf: &mut Shelf,
+    watch: &mut Letters,
+    bytes: &[u8],
+    want: (Going, &[u8]),
+) -> Result<(), Fail>
+    requires { IsClient seen_of (front_of shelf.old.front) session.old.client }
+    ensures { IsClient seen_of (front_of shelf.new.front) session.new.client }
+{
+    let mut out = Vec::new(alloc);
+    let going = session.feed_watched(alloc, shelf, watch, bytes, &mut out)?;
+    let (now, told) = want;
+    assert_eq!(rt; going, now, "after {bytes:?}");
+    assert_eq!(rt; watch.text(), told, "after {bytes:?}");
+    Ok(())
+}
+
 // Each item is told once, before it is carried out, and a READBUF that waits isn't told again.
+fn hear_items(
+    rt: &impl Abort,
+    alloc: Global,
+    session: &mut Session<ShelfSeat>,
+    shelf: &mut Shelf,
+) -> Result<(), Fail>
+    requires { IsClient seen_of (front_of shelf.old.front) session.old.client }
+    ensures { IsClient seen_of (front_of shelf.new.front) session.new.client }
+{
+    let mut watch = Letters::new();
+    let bytes = b"OPEN adc0 1 00000003\nNONE\n\nREADBUF adc0 2\nREADBUF adc0 2\nVERSION\n";
+    let waits = (Going::Waits(0), b"c1r1r1c1c0".as_slice());
+    hear_watched(rt, alloc, session, shelf, &mut watch, bytes, waits)?;
+    assert!(rt; session.holds(0) && !session.holds(1) && !session.holds_nothing());
+    shelf.scans.push(b"bB".to_vec(alloc)?)?;
+    let on = (Going::On, b"c1r1r1c1c0c0".as_slice());
+    hear_watched(rt, alloc, session, shelf, &mut watch, b"EX", on)?;
+    let ended = (Going::Ended, b"c1r1r1c1c0c0c0".as_slice());
+    hear_watched(rt, alloc, session, shelf, &mut watch, b"IT\n\n", ended)?;
+    assert!(rt; session.holds_nothing());
+    Ok(())
+}
+
 #[test]
 fn a_watch_is_told_each_item_once(rt: HostRuntime) -> Result<(), Fail> {
-    let alloc = rt.alloc();
-    let mut shelf = shelf_of(alloc, &[b"aA"])?;
-    let mut a = Session::new(alloc, 3, Manner::Server)?;
+    let mut shelf = shelf_of(rt.alloc(), &[b"aA"])?;
+    let mut session = Session::new(rt.alloc(), 3, Manner::Server)?;
+    hear_items(&rt, rt.alloc(), &mut session, &mut shelf)?;
+    session.end(&mut shelf);
+    Ok(())
+}
+
+// Checks that a session ends with these bytes, and what a watch of it is told.
+fn hear_limit(
+    rt: &impl Abort,
+    alloc: Global,
+    shelf: &mut Shelf,
+    bytes: &[u8],
+    told: &[u8],
+) -> Result<(), Fail> {
+    let mut session = Session::new(alloc, 3, Manner::Script)?;
     let mut watch = Letters::new();
-    let mut out = Vec::new(alloc);
-    let bytes = b"OPEN adc0 1 00000003\nNONE\n\nREADBUF adc0 2\nREADBUF adc0 2\nVERSION\n";
-    let waits = a.feed_watched(alloc, &mut shelf, &mut watch, bytes, &mut out)?;
-    assert_eq!(rt; waits, Going::Waits(0));
-    assert_eq!(rt; watch.text(), b"c1r1r1c1c0".as_slice());
-    assert!(rt; a.holds(0) && !a.holds(1) && !a.holds_nothing());
-    shelf.scans.push(b"bB".to_vec(alloc)?)?;
-    let on = a.feed_watched(alloc, &mut shelf, &mut watch, b"EX", &mut out)?;
-    assert_eq!(rt; on, Going::On);
-    assert_eq!(rt; watch.text(), b"c1r1r1c1c0c0".as_slice());
-    let ended = a.feed_watched(alloc, &mut shelf, &mut watch, b"IT\n\n", &mut out)?;
-    assert_eq!(rt; ended, Going::Ended);
-    assert_eq!(rt; watch.text(), b"c1r1r1c1c0c0c0".as_slice());
-    assert!(rt; a.holds_nothing());
-    a.end(&mut shelf);
+    let ended = (Going::Ended, told);
+    hear_watched(rt, alloc, &mut session, shelf, &mut watch, bytes, ended)?;
+    session.end(shelf);
     Ok(())
 }
 
@@ -234,16 +279,8 @@ fn a_watch_is_told_each_item_once(rt: HostRuntime) -> Result<(), Fail> {
 fn a_watch_is_told_a_broken_limit(rt: HostRuntime) -> Result<(), Fail> {
     let alloc = rt.alloc();
     let mut shelf = shelf_of(alloc, &[])?;
-    let mut a = Session::new(alloc, 3, Manner::Script)?;
-    let mut b = Session::new(alloc, 4, Manner::Script)?;
-    let mut watch = Letters::new();
-    let mut out = Vec::new(alloc);
     let long = [b'x'; 1025];
-    a.feed_watched(alloc, &mut shelf, &mut watch, &long, &mut out)?;
     let large = b"WRITE adc0 sampling_frequency 2\n10WRITE adc0 x 65537\n";
-    b.feed_watched(alloc, &mut shelf, &mut watch, large, &mut out)?;
-    assert_eq!(rt; watch.text(), b"l0c0c0".as_slice());
-    a.end(&mut shelf);
-    b.end(&mut shelf);
-    Ok(())
+    hear_limit(&rt, alloc, &mut shelf, &long, b"l0")?;
+    hear_limit(&rt, alloc, &mut shelf, large, b"c0c0")
 }

@@ -22,11 +22,11 @@ mod sessions;
 mod solo_words;
 mod words;
 
-ghost use Rattle.std.specs.Prelude.{◌≡◌, ◌+◌, ◌-◌, ◌^◌, ◌<◌, ◌≤◌, IfOk, OnOk, ⊤};
-ghost use Rattle.iio_desc.specs.DescReader.{drivers_of, line_count};
+ghost use Rattle.std.specs.Prelude.{◌-◌, ◌^◌, ◌≤◌, length, IfOk, ⊤};
+ghost use Rattle.iio_text.specs.Lines.{lines_of};
 ghost use Rattle.iio_desc.specs.WellFormed.{IsWellFormed};
 
-use iio_desc::{Desc, DescReader};
+use iio_desc::{Desc, read_desc};
 use iio_io::{Door, Gate, Link, ListTicker, MemLink, MemSink, MemSource, OpenGate, Ticker};
 use iiod_hub::{Hub, SessionEnd, serve_connection};
 use iiod_server::{ServeEnd, serve_all};
@@ -38,30 +38,30 @@ use std::thread::Threads;
 // How often a test looks again, a millisecond apart, before it gives up.
 const TURNS: u32 = 10_000;
 
-// Reads a line of a description. The contract says nothing of what the line means.
-fn read_line(reader: &mut DescReader, line: &[u8]) -> Result<(), Fail>
-    requires { line_count reader.old < 2 ^ 32 - 2 }
-    ensures counted { line_count reader.new ≤ line_count reader.old + 1 }
-    ensures drivers { OnOk result (drivers_of reader.new ≡ drivers_of reader.old) }
+// Returns the description that a text says.
+fn desc_of(alloc: Global, text: &[u8]) -> Result<Desc, Fail>
+    requires { length (lines_of text.now) ≤ 2 ^ 32 - 2 }
+    ensures { IfOk result (λ desc. IsWellFormed 0 desc) }
 {
-    reader.line(line)?;
-    Ok(())
+    Ok(read_desc(alloc, text, 0)?)
 }
 
 // Describes a device of two voltages, an acceleration and a timestamp, with one recorded row.
 fn described(alloc: Global) -> Result<Desc, Fail>
     ensures { IfOk result (λ desc. IsWellFormed 0 desc) }
 {
-    let mut reader = DescReader::new(alloc, 0)?;
-    read_line(&mut reader, b"context \"<context/>\"")?;
-    read_line(&mut reader, b"trigger t0 2")?;
-    read_line(&mut reader, b"device adc0 t0")?;
-    read_line(&mut reader, b"channel voltage0 le:u12/16>>4")?;
-    read_line(&mut reader, b"channel voltage1 le:u12/16>>4")?;
-    read_line(&mut reader, b"channel accel_x be:s16/16>>0")?;
-    read_line(&mut reader, b"timestamp")?;
-    read_line(&mut reader, b"row 0 1 2 -3")?;
-    Ok(reader.finish()?)
+    desc_of(
+        alloc,
+        b"context \"<context/>\"
+trigger t0 2
+device adc0 t0
+channel voltage0 le:u12/16>>4
+channel voltage1 le:u12/16>>4
+channel accel_x be:s16/16>>0
+timestamp
+row 0 1 2 -3
+",
+    )
 }
 
 fn hub_of(alloc: Global) -> Result<Hub, Fail> {

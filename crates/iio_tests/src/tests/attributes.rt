@@ -109,33 +109,38 @@ fn names_by_scope(rt: HostRuntime) {
     }
 }
 
+/// What a value is read as: whether it is negative, its whole part and its fraction, and its form.
+type Checked = Result<(bool, u32, u32, Form), Errno>;
+
+/// An attribute, a text that is written to it, and what it is read as.
+const VALUES: &[(Attr, &str, Checked)] = &[
+    (Attr::Raw, "1", Err(Errno::EACCES)),
+    (Attr::Raw, "x", Err(Errno::EACCES)),
+    (Attr::Name, "x", Err(Errno::EACCES)),
+    (Attr::Scale, "-", Err(Errno::EINVAL)),
+    (Attr::Scale, "2147483648", Err(Errno::ERANGE)),
+    (Attr::ThreshRisingEn, "2147483648", Err(Errno::ERANGE)),
+    (Attr::ThreshRisingEn, "2", Err(Errno::EINVAL)),
+    (Attr::ThreshFallingEn, "-1", Err(Errno::EINVAL)),
+    (Attr::ThreshRisingEn, "1\n", Ok((false, 1, 0, Form::Int))),
+    (Attr::ThreshFallingEn, "-0", Ok((false, 0, 0, Form::Int))),
+    (
+        Attr::Calibbias,
+        "-32768\x00",
+        Ok((true, 32768, 0, Form::Int)),
+    ),
+    (Attr::Scale, "-0.000250", Ok((true, 0, 250, Form::Micro))),
+    (
+        Attr::Calibscale,
+        "1.5",
+        Ok((false, 1, 500_000_000, Form::Nano)),
+    ),
+];
+
 #[test]
 fn values_checked(rt: HostRuntime) {
-    let rows = [
-        (Attr::Raw, "1", Err(Errno::EACCES)),
-        (Attr::Raw, "x", Err(Errno::EACCES)),
-        (Attr::Name, "x", Err(Errno::EACCES)),
-        (Attr::Scale, "-", Err(Errno::EINVAL)),
-        (Attr::Scale, "2147483648", Err(Errno::ERANGE)),
-        (Attr::ThreshRisingEn, "2147483648", Err(Errno::ERANGE)),
-        (Attr::ThreshRisingEn, "2", Err(Errno::EINVAL)),
-        (Attr::ThreshFallingEn, "-1", Err(Errno::EINVAL)),
-        (Attr::ThreshRisingEn, "1\n", Ok((false, 1, 0, Form::Int))),
-        (Attr::ThreshFallingEn, "-0", Ok((false, 0, 0, Form::Int))),
-        (
-            Attr::Calibbias,
-            "-32768\x00",
-            Ok((true, 32768, 0, Form::Int)),
-        ),
-        (Attr::Scale, "-0.000250", Ok((true, 0, 250, Form::Micro))),
-        (
-            Attr::Calibscale,
-            "1.5",
-            Ok((false, 1, 500_000_000, Form::Nano)),
-        ),
-    ];
-    for (attr, text, want) in rows {
-        let got = check(attr, text.as_bytes()).map(|v| (v.negative, v.whole, v.part, v.form));
-        assert_eq!(rt; got, want, "{text}");
+    for (attr, text, want) in VALUES {
+        let got = check(*attr, text.as_bytes()).map(|v| (v.negative, v.whole, v.part, v.form));
+        assert_eq!(rt; got, *want, "{text}");
     }
 }

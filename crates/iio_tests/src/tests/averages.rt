@@ -1,5 +1,8 @@
 //! Means of captures. Expected values are by hand, after the layout of docs/FORMATS.md.
-ghost use Rattle.std.specs.Prelude.{◌≡◌, ◌+◌, ◌≤◌, ◌<◌, IfOk};
+ghost use Rattle.std.specs.Prelude.{◌≡◌, ◌+◌, ◌≤◌, ◌<◌, true, length, IfOk};
+ghost use Rattle.iio_layout.specs.Layout.{scan_size};
+ghost use Rattle.iio_derive.specs.Average.{has_member};
+ghost use Rattle.iio_derive.specs.Window.{full_mask};
 ghost use Rattle.iio_tests.specs.Tested.{AreTested};
 
 use crate::tests::fixtures::voltage;
@@ -48,6 +51,17 @@ fn join(
     Ok(device.join(mask, 1)?)
 }
 
+// Adds a capture, given as a scan of all channels; before it at most `most` offers were made to any queue.
+fn add_scan(device: &mut Average, scan: &[u8], size: usize, most: u64) -> Option<u32>
+    requires sized { length scan.now ≡ scan_size device.old.shape (full_mask device.old.shape) }
+    requires member { has_member device.old.seats ≡ true }
+    requires known { AreTested most size device.old.seats }
+    requires few { most < 1000 }
+    ensures { AreTested (most + 1) size device.new.seats }
+{
+    device.add(scan)
+}
+
 // Adds a capture of these values; before it at most `most` offers were made to any queue.
 fn add(
     rt: &impl Abort,
@@ -68,7 +82,7 @@ fn add(
     assert!(rt; bytes <= 32);
     let mut room = [0; 32];
     fill(device.shape(), full, &values, t, &mut room[..bytes]);
-    device.add(&room[..bytes])
+    add_scan(device, &room[..bytes], size, most)
 }
 
 // Takes the oldest scan of a member, if one waits.
@@ -215,28 +229,26 @@ enum Step {
     HasMember(bool),
 }
 
-// Plays the steps at a device of this window, whose members' scans have four bytes.
-fn play(rt: &impl Abort, alloc: Global, window: u32, steps: &[Step]) -> Result<(), Fail>
-    requires low { 2 ≤ window }
-    requires high { window ≤ 1000 }
+// Plays the steps at a device without members, whose members' scans have four bytes.
+fn play(rt: &impl Abort, device: &mut Average, steps: &[Step]) -> Result<(), Fail>
+    requires { AreTested 0 4 device.old.seats }
 {
-    let mut device = device(alloc, TYPES, window, 4)?;
     let mut adds = 0u64;
     for step in steps {
         match *step {
             Step::Join(mask, number) => {
-                let given = join(rt, &mut device, mask, 4, adds)?;
+                let given = join(rt, device, mask, 4, adds)?;
                 assert_eq!(rt; given, number);
             }
             Step::Leave(number, is_there) => assert_eq!(rt; device.leave(number), is_there),
             Step::Add(values, t, made) => {
                 assert!(rt; adds < 1000);
-                check_add(rt, &mut device, values, t, 4, adds, made);
+                check_add(rt, device, values, t, 4, adds, made);
                 adds += 1;
             }
-            Step::Take(number, scan) => check_take(rt, &mut device, number, 4, adds, scan),
+            Step::Take(number, scan) => check_take(rt, device, number, 4, adds, scan),
             Step::TakeNone(number) => {
-                let (given, _) = take(rt, &mut device, number, 4, adds);
+                let (given, _) = take(rt, device, number, 4, adds);
                 assert!(rt; !given);
             }
             Step::Queue(number, waiting, lost) => {
@@ -268,7 +280,8 @@ fn two_members(rt: HostRuntime) -> Result<(), Fail> {
         Step::Take(1, b"\x80\x00\x00\x00"),
         Step::TakeNone(1),
     ];
-    play(&rt, rt.alloc(), 2, &steps)
+    let mut device = device(rt.alloc(), TYPES, 2, 4)?;
+    play(&rt, &mut device, &steps)
 }
 
 // When the last member leaves, the window begins anew; a free number is given again.
@@ -291,5 +304,6 @@ fn window_anew(rt: HostRuntime) -> Result<(), Fail> {
         Step::Add([6, 0, 0], 5000, Some(1)),
         Step::Take(0, b"\x20\x00\x00\x00"),
     ];
-    play(&rt, rt.alloc(), 3, &steps)
+    let mut device = device(rt.alloc(), TYPES, 3, 4)?;
+    play(&rt, &mut device, &steps)
 }

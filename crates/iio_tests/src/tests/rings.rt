@@ -5,6 +5,7 @@ ghost use Rattle.iio_kfifo.specs.Offers.{accepted, lost_in};
 ghost use Rattle.iio_kfifo.specs.Rule.{new_writing};
 
 use iio_kfifo::{Ended, Mark, Offered, Reader, Tail, Writer, give_back, ring};
+use std::process::Abort;
 use std::test::Fail;
 use std::thread;
 
@@ -166,6 +167,21 @@ fn take_run(reader: &mut Reader, most: u32, out: &mut Vec<u8>) -> u32
     reader.take_scans(most, out)
 }
 
+// Offers three scans of two bytes.
+fn offer_three(writer: &mut Writer, scans: [&[u8; 2]; 3])
+    requires size { writer.old.size ≡ 2 }
+    requires fewer { length (accepted writer.old.knows.offers) + lost_in writer.old.knows.offers < 2 ^ 64 - 3 }
+    ensures ring { writer.new.ring ≡ writer.old.ring }
+    ensures size { writer.new.size ≡ 2 }
+    ensures most { length (accepted writer.new.knows.offers) + lost_in writer.new.knows.offers ≤ length (accepted writer.old.knows.offers)
+        + lost_in writer.old.knows.offers + 3 }
+{
+    let [first, second, third] = scans;
+    offer_two(writer, first);
+    offer_two(writer, second);
+    offer_two(writer, third);
+}
+
 // Takes one scan of two bytes, if there is one.
 fn take_two(reader: &mut Reader) -> (Option<Mark>, [u8; 2])
     requires { reader.old.size ≡ 2 }
@@ -176,25 +192,31 @@ fn take_two(reader: &mut Reader) -> (Option<Mark>, [u8; 2])
     (mark, scan)
 }
 
-// Runs that go round the ring's end, and one that is cut by the number wanted.
+// Offers seven scans to a new ring of three slots, and takes those that fit in runs: two go round the ring's end, and one is
+// cut by the number wanted.
+fn play_runs(rt: &impl Abort, writer: &mut Writer, reader: &mut Reader, out: &mut Vec<u8>)
+    requires size { (writer.old.size ≡ 2) × (reader.old.size ≡ 2) }
+    requires new { writer.old.knows ≡ new_writing }
+    requires room { length out.old.items + 16 ≤ vec_capacity out.old }
+    ensures ring { (writer.new.ring ≡ writer.old.ring) × (reader.new.ring ≡ reader.old.ring) }
+{
+    offer_three(writer, [b"ab", b"cd", b"ef"]);
+    assert_eq!(rt; take_run(reader, 2, out), 2);
+    assert!(rt; *out.as_slice() == *b"abcd".as_slice());
+    offer_three(writer, [b"gh", b"ij", b"kl"]);
+    assert_eq!(rt; (reader.waiting(), writer.lost()), (3, 1));
+    assert_eq!(rt; take_run(reader, 4, out), 3);
+    assert!(rt; *out.as_slice() == *b"abcdefghij".as_slice());
+    assert_eq!(rt; take_run(reader, 3, out), 0);
+    offer_two(writer, b"mn");
+    assert_eq!(rt; take_two(reader), (Some(mark(5, 6, 1)), *b"mn"));
+}
+
 #[test]
 fn runs_keep_their_order(rt: HostRuntime) -> Result<(), Fail> {
     let mut out = Vec::with_capacity(rt.alloc(), 16)?;
     let (mut writer, mut reader) = ring(rt.alloc(), 3, 2)?;
-    offer_two(&mut writer, b"ab");
-    offer_two(&mut writer, b"cd");
-    offer_two(&mut writer, b"ef");
-    assert_eq!(rt; take_run(&mut reader, 2, &mut out), 2);
-    assert!(rt; *out.as_slice() == *b"abcd".as_slice());
-    offer_two(&mut writer, b"gh");
-    offer_two(&mut writer, b"ij");
-    offer_two(&mut writer, b"kl");
-    assert_eq!(rt; (reader.waiting(), writer.lost()), (3, 1));
-    assert_eq!(rt; take_run(&mut reader, 4, &mut out), 3);
-    assert!(rt; *out.as_slice() == *b"abcdefghij".as_slice());
-    assert_eq!(rt; take_run(&mut reader, 3, &mut out), 0);
-    offer_two(&mut writer, b"mn");
-    assert_eq!(rt; take_two(&mut reader), (Some(mark(5, 6, 1)), *b"mn"));
+    play_runs(&rt, &mut writer, &mut reader, &mut out);
     let receipt = give_back(writer, reader);
     assert_eq!(rt; (receipt.received, receipt.left, receipt.lost), (6, 0, 1));
     Ok(())

@@ -1,14 +1,14 @@
 //! Hubs: a usual session, a lost one, and a bank without locks.
 
-ghost use Rattle.std.specs.Prelude.{IfOk, ◌<◌, length};
+ghost use Rattle.std.specs.Prelude.{◌+◌, ◌<◌, ◌≤◌, length, vec_capacity, IfOk};
 ghost use Rattle.iio_desc.specs.WellFormed.{IsWellFormed};
 ghost use Rattle.iiod_hub.specs.Link.{seen_of};
 ghost use Rattle.iiod_commands.specs.Client.{IsClient};
 
 use super::doubles::Texts;
 use super::sessions::{handle, hear, link_to, poll, tick_once, unplug};
-use super::{end_of, hub_of, link_of, read_line};
-use iio_desc::{Desc, DescReader};
+use super::{desc_of, end_of, hub_of, link_of};
+use iio_desc::Desc;
 use iio_device::Handled;
 use iio_io::ListTicker;
 use iio_kfifo::Ended;
@@ -20,6 +20,7 @@ use iiod_bank::{Bank, OwnBank};
 use iiod_hub::{Hub, HubLink, HubSeat, SessionEnd};
 use iiod_session::{Going, Manner, Mem, No, Session};
 use std::alloc::Global;
+use std::process::Abort;
 use std::sync::Wait;
 use std::test::Fail;
 
@@ -92,15 +93,17 @@ fn a_lost_connection_leaves_no_member(rt: HostRuntime) -> Result<(), Fail> {
 fn described_with_all_kinds(alloc: Global) -> Result<Desc, Fail>
     ensures { IfOk result (λ desc. IsWellFormed 0 desc) }
 {
-    let mut reader = DescReader::new(alloc, 0)?;
-    read_line(&mut reader, b"trigger t0 2")?;
-    read_line(&mut reader, b"output dac0 t0")?;
-    read_line(&mut reader, b"channel voltage0 le:u8/8>>0")?;
-    read_line(&mut reader, b"device adc0 t0")?;
-    read_line(&mut reader, b"channel voltage0 le:u8/8>>0")?;
-    read_line(&mut reader, b"row 0 7")?;
-    read_line(&mut reader, b"average avg0 adc0 2")?;
-    Ok(reader.finish()?)
+    desc_of(
+        alloc,
+        b"trigger t0 2
+output dac0 t0
+channel voltage0 le:u8/8>>0
+device adc0 t0
+channel voltage0 le:u8/8>>0
+row 0 7
+average avg0 adc0 2
+",
+    )
 }
 
 const NAMING: &[u8] =
@@ -201,60 +204,80 @@ fn unplugged_under_a_reader(rt: HostRuntime) -> Result<(), Fail> {
     Ok(())
 }
 
-// A member of a running hub changes its mask: the scans that waited are counted and gone, and the next scan is one of the new
-// mask.
-#[test]
-fn a_member_of_a_hub_exchanges_its_mask(rt: HostRuntime) -> Result<(), Fail> {
-    let alloc = rt.alloc();
-    let hub = hub_of(alloc)?;
-    let mut bytes = Vec::with_capacity(alloc, 2)?;
+// Opens a seat, captures three times, exchanges its mask, captures once more and reads.
+fn exchange_mask<R: Abort + Wait>(
+    rt: &R,
+    alloc: Global,
+    hub: &Hub,
+    bytes: &mut Vec<u8>,
+) -> Result<(), Fail>
+    requires { length bytes.old.items + 2 ≤ vec_capacity bytes.old }
+{
     assert!(rt; hub.front.count() > 0);
     let shape = hub.front.shape(0);
     let (wide, narrow) = (Mask { bits: 5 }, Mask { bits: 2 });
     assert!(rt; shape.count() == 4);
     assert!(rt; has_data(shape, wide) && has_data(shape, narrow));
     assert!(rt; scan_size(shape, wide) == 4 && scan_size(shape, narrow) == 2);
-    let Ok(mut seat) = hub.open(&rt, alloc, 0, wide, 2) else {
+    let Ok(mut seat) = hub.open(rt, alloc, 0, wide, 2) else {
         return Err(Fail::from("refused"));
     };
     for t in [1000i64, 2000, 3000] {
-        hub.poll(&rt, alloc, 0, t);
-        hub.handle(&rt, alloc, 0, 0);
+        hub.poll(rt, alloc, 0, t);
+        hub.handle(rt, alloc, 0, 0);
     }
-    let Ok(discarded) = hub.remask(&rt, alloc, &mut seat, narrow) else {
-        hub.close(&rt, alloc, seat);
+    let Ok(discarded) = hub.remask(rt, alloc, &mut seat, narrow) else {
+        hub.close(rt, alloc, seat);
         return Err(Fail::from("no new mask"));
     };
-    hub.poll(&rt, alloc, 0, 4000);
-    let handled = hub.handle(&rt, alloc, 0, 0);
-    let read = hub.read(&mut seat, 1, &mut bytes);
-    let ended = hub.close(&rt, alloc, seat);
+    hub.poll(rt, alloc, 0, 4000);
+    let handled = hub.handle(rt, alloc, 0, 0);
+    let read = hub.read(&mut seat, 1, bytes);
+    let ended = hub.close(rt, alloc, seat);
     assert_eq!(rt; discarded, 2);
     assert_eq!(rt; handled, Some(Handled::Captured(1)));
-    assert_eq!(rt; (read, bytes.as_slice()), (Ok(1), b"\x20\0".as_slice()));
-    assert_eq!(rt; ended, Ended::Whole(1));
+    assert_eq!(rt; (read, ended), (Ok(1), Ended::Whole(1)));
     Ok(())
+}
+
+// A member of a running hub changes its mask: the scans that waited are counted and gone, and the next scan is one of the new
+// mask.
+#[test]
+fn a_member_of_a_hub_exchanges_its_mask(rt: HostRuntime) -> Result<(), Fail> {
+    let hub = hub_of(rt.alloc())?;
+    let mut bytes = Vec::with_capacity(rt.alloc(), 2)?;
+    exchange_mask(&rt, rt.alloc(), &hub, &mut bytes)?;
+    assert_eq!(rt; bytes.as_slice(), b"\x20\0".as_slice());
+    Ok(())
+}
+
+// Opens a seat of a device that is then unplugged, and returns how an exchange of its mask is refused, and its mask then.
+fn refuse_exchange<R: Abort + Wait>(rt: &R, alloc: Global, hub: &Hub) -> Result<(No, Mask), Fail> {
+    assert!(rt; hub.front.count() > 0);
+    let shape = hub.front.shape(0);
+    let (wide, narrow) = (Mask { bits: 5 }, Mask { bits: 2 });
+    assert!(rt; shape.count() == 4);
+    assert!(rt; has_data(shape, wide) && has_data(shape, narrow));
+    assert!(rt; scan_size(shape, wide) == 4 && scan_size(shape, narrow) == 2);
+    let Ok(mut seat) = hub.open(rt, alloc, 0, wide, 2) else {
+        return Err(Fail::from("refused"));
+    };
+    hub.unplug(rt, alloc, 0);
+    let refused = hub.remask(rt, alloc, &mut seat, narrow);
+    let mask = seat.mask;
+    hub.close(rt, alloc, seat);
+    match refused {
+        Ok(_) => Err(Fail::from("exchanged")),
+        Err(no) => Ok((no, mask)),
+    }
 }
 
 // At an unplugged device a change of masks is refused, and the seat stays.
 #[test]
 fn a_seat_of_an_unplugged_device_keeps_its_mask(rt: HostRuntime) -> Result<(), Fail> {
-    let alloc = rt.alloc();
-    let hub = hub_of(alloc)?;
-    assert!(rt; hub.front.count() > 0);
-    let shape = hub.front.shape(0);
-    let (wide, narrow) = (Mask { bits: 5 }, Mask { bits: 2 });
-    assert!(rt; shape.count() == 4);
-    assert!(rt; has_data(shape, wide) && has_data(shape, narrow));
-    assert!(rt; scan_size(shape, wide) == 4 && scan_size(shape, narrow) == 2);
-    let Ok(mut seat) = hub.open(&rt, alloc, 0, wide, 2) else {
-        return Err(Fail::from("refused"));
-    };
-    hub.unplug(&rt, alloc, 0);
-    let refused = hub.remask(&rt, alloc, &mut seat, narrow);
-    let mask = seat.mask;
-    hub.close(&rt, alloc, seat);
-    assert_eq!(rt; refused, Err(No::Errno(Errno::ENODEV)));
-    assert_eq!(rt; mask, wide);
+    let hub = hub_of(rt.alloc())?;
+    let (no, mask) = refuse_exchange(&rt, rt.alloc(), &hub)?;
+    assert_eq!(rt; no, No::Errno(Errno::ENODEV));
+    assert_eq!(rt; mask, Mask { bits: 5 });
     Ok(())
 }

@@ -4,8 +4,8 @@ ghost use Rattle.std.specs.Prelude.{IfOk};
 ghost use Rattle.iio_desc.specs.WellFormed.{IsWellFormed};
 
 use super::doubles::{Playing, Starting};
-use super::{link_of, read_line, serve_timed};
-use iio_desc::{Desc, DescReader};
+use super::{desc_of, link_of, serve_timed};
+use iio_desc::Desc;
 use iio_io::{ListDoor, OpenGate};
 use iiod_hub::Hub;
 use iiod_server::ServeEnd;
@@ -27,18 +27,20 @@ const SCANS: u32 = 60;
 fn played(alloc: Global) -> Result<Desc, Fail>
     ensures { IfOk result (λ desc. IsWellFormed 0 desc) }
 {
-    let mut reader = DescReader::new(alloc, 0)?;
-    read_line(&mut reader, b"trigger t0 2")?;
-    read_line(&mut reader, b"device adc0 t0")?;
-    read_line(&mut reader, b"channel voltage0 le:u12/16>>4")?;
-    read_line(&mut reader, b"timestamp")?;
-    read_line(&mut reader, b"row 0 0")?;
-    read_line(&mut reader, b"row 10000000 1")?;
-    read_line(&mut reader, b"row 20000000 2")?;
-    read_line(&mut reader, b"row 30000000 3")?;
-    read_line(&mut reader, b"row 40000000 4")?;
-    read_line(&mut reader, b"row 50000000 5")?;
-    Ok(reader.finish()?)
+    desc_of(
+        alloc,
+        b"trigger t0 2
+device adc0 t0
+channel voltage0 le:u12/16>>4
+timestamp
+row 0 0
+row 10000000 1
+row 20000000 2
+row 30000000 3
+row 40000000 4
+row 50000000 5
+",
+    )
 }
 
 // Creates the door with one connection that reads `SCANS` scans.

@@ -81,14 +81,22 @@ fn serve_next<'a, 'b, R: Wait>(
     Some(end_of(server.rt, server.alloc, server.hub, 1, &mut link))
 }
 
-// Returns the words for a client that reads two scans of the hub's device at a door.
-fn words_for(alloc: Global, address: SocketAddr) -> Result<Vec<String>, Fail> {
-    let mut words = Vec::new(alloc);
-    words.push(String::from_str(alloc, "readdev")?)?;
-    words.push(format!(in alloc; "{address}")?)?;
-    for word in ["adc0", "1", "00000005", "2"] {
+fn push_words(alloc: Global, words: &mut Vec<String>, more: &[&str]) -> Result<(), Fail> {
+    for word in more {
         words.push(String::from_str(alloc, word)?)?;
     }
+    Ok(())
+}
+
+// Returns the words for a client that reads two scans of the hub's device at a door.
+fn words_for(alloc: Global, address: SocketAddr) -> Result<Vec<String>, Fail> {
+    let door = format!(in alloc; "{address}")?;
+    let mut words = Vec::new(alloc);
+    push_words(
+        alloc,
+        &mut words,
+        &["readdev", door.as_str(), "adc0", "1", "00000005", "2"],
+    )?;
     Ok(words)
 }
 

@@ -4,14 +4,14 @@ ghost use Rattle.std.specs.Prelude.{IfOk};
 ghost use Rattle.iio_layout.specs.Rows.{IsRecording};
 ghost use Rattle.iio_probe.specs.Devices.{IsFit};
 
+use crate::tests::fixtures::voltage;
 use iio_attr::Name;
 use iio_desc::DeviceDesc;
 use iio_device::Device;
 use iio_kfifo::Kfifo;
-use iio_layout::{Channel, Direction, Kind, Rows, Shape, Suffix};
+use iio_layout::{Rows, Shape};
 use iio_mask::Mask;
 use iio_probe::{Mem, devices_of};
-use iio_scan_type::read_type;
 use std::alloc::Global;
 use std::test::Fail;
 
@@ -32,15 +32,6 @@ fn one_row(alloc: Global) -> Result<Rows, Mem>
         moments: Vec::from_slice(alloc, &[0])?,
         values: Vec::from_slice(alloc, &[1, 2, 3])?,
         width: 3,
-    })
-}
-
-fn voltage(number: u16, ty: &str) -> Result<Channel, Fail> {
-    Ok(Channel {
-        kind: Kind::Voltage,
-        suffix: Suffix::Number(number),
-        direction: Direction::Input,
-        ty: read_type(ty.as_bytes()).ok_or("no type")?,
     })
 }
 
