@@ -13,7 +13,8 @@ ghost use Rattle.iio_derive.specs.Members.{member_at};
 ghost use Rattle.iio_derive.specs.Window.{full_mask};
 
 use crate::members::{
-    Membership, free_place, has_member, is_live, member_count, offer_all, take_at, take_scans_at,
+    Membership, free_place, has_member, is_live, member_count, offer_all, seat_at, take_at,
+    take_scans_at,
 };
 use crate::reading::{places_of, read_moment, read_values};
 use crate::sums::{add_values, put_means};
@@ -108,13 +109,7 @@ impl Average {
         if number >= u32::MAX as usize {
             return Err(Mem);
         }
-        let seat = Some(Membership { mask, queue });
-        if number < self.seats.len() {
-            self.seats[number] = seat;
-        } else {
-            self.seats.reserve(1)?;
-            self.seats.push_reserved(seat);
-        }
+        seat_at(&mut self.seats, number, Membership { mask, queue })?;
         Ok(number as u32)
     }
 

@@ -1,17 +1,18 @@
 //! The members of an averaging device.
 
-ghost use Rattle.std.specs.Prelude.{◌≡◌, ◌≢◌, ℕ, ◌+◌, ◌*◌, ◌-◌, ◌^◌, ◌<◌, ◌≤◌, length, is_some, IfSome, IsSome, Some, None, MatchBool, slice_set, slice_index_or, vec_capacity};
+ghost use Rattle.std.specs.Prelude.{◌≡◌, ◌≢◌, ℕ, ◌+◌, ◌*◌, ◌-◌, ◌^◌, ◌<◌, ◌≤◌, length, is_some, IfSome, IsSome, OnErr, OnOk, Some, None, MatchBool, slice_set, slice_index_or, vec_capacity};
 ghost use Rattle.iio_kfifo.specs.Queue.{GivesFirst};
 ghost use Rattle.iio_layout.specs.Layout.{scan_size};
 ghost use Rattle.iio_layout.specs.Scan.{scan_of};
-ghost use Rattle.iio_layout.specs.Shape.{count_of, width_of};
+ghost use Rattle.iio_layout.specs.Shape.{ShapeRecord, count_of, width_of};
 ghost use Rattle.iio_derive.specs.declared.members.Membership.{Membership};
 ghost use Rattle.iio_scan_type.specs.declared.TheConstants.{MAX_CHANNEL_SIZE};
 ghost use Rattle.iio_derive.specs.Average.{has_member};
-ghost use Rattle.iio_derive.specs.Members.{SeatOffered, Takes, TakesScans, WasOffered, member_at, member_count};
+ghost use Rattle.iio_derive.specs.Members.{ChangesOne, SeatOffered, Takes, TakesScans, WasOffered, member_at, member_count};
 ghost use Rattle.iio_derive.specs.View.{AreSized};
 ghost use Rattle.iio_derive.specs.Sized.{IsSized};
 
+use iio_base::Mem;
 use iio_kfifo::{Kfifo, Tail};
 use iio_layout::{Shape, fill};
 use iio_mask::Mask;
@@ -81,6 +82,28 @@ pub(crate) fn free_place(seats: &[Option<Membership>]) -> usize
         }
     }
     seats.len()
+}
+
+/// Seats a member at a place that none has, or after all places. If memory runs out, nothing changes.
+pub(crate) fn seat_at(
+    seats: &mut Vec<Option<Membership>>,
+    number: usize,
+    member: Membership,
+) -> Result<(), Mem>
+    requires within { number ≤ length seats.old.items }
+    requires fewer { number < 2 ^ 32 - 1 }
+    requires few { length seats.old.items < 2 ^ 32 }
+    ensures seated { OnOk result (ChangesOne number (Some member) seats.old.items seats.new.items) }
+    ensures same { OnErr result (seats.new.items ≡ seats.old.items) }
+    ensures few { length seats.new.items < 2 ^ 32 }
+    ensures sized { OnOk result ((shape : ShapeRecord) → AreSized shape seats.old.items → IsSized shape member → AreSized shape seats.new.items) }
+{
+    if number < seats.len() {
+        seats[number] = Some(member);
+        return Ok(());
+    }
+    seats.push(Some(member))?;
+    Ok(())
 }
 
 /// Whether there is a member.

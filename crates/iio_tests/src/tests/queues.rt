@@ -1,5 +1,5 @@
 //! The largest queues. Everything else is played in `iio_script_tests`.
-ghost use Rattle.std.specs.Prelude.{◌≡◌, ◌+◌, ◌*◌, ◌^◌, ◌<◌, ◌≤◌, [], length, vec_capacity};
+ghost use Rattle.std.specs.Prelude.{◌≡◌, ◌+◌, ◌*◌, ◌^◌, ◌<◌, ◌≤◌, length, vec_capacity};
 
 use iio_kfifo::{Kfifo, Offered, Tail};
 use std::process::Abort;

@@ -1,4 +1,5 @@
 use Rattle.std.proofs.Common.{◌<◌, length, arith}
+use Rattle.std.proofs.lemmas.Grind.{elements}
 use Rattle.iio_derive.proofs.MemberLemmas.{member_read, offered_more, offered_none}
 use Rattle.iio_derive.proofs.members.offer_all.Goals.{in-Some, in_default}
 use Rattle.iio_derive.proofs.members.offer_all.Goals as goal
@@ -24,3 +25,12 @@ loop-i-preserved c =
           let is = member_read seats i c.index_mut.result.now _ less c.index_mut.ensures.value w.in_default.is in
           rw (w.seats-is, w.in_default.is) (record { offering = offered_none shape values _ i old seats before is; all = c.loop-i.invariant.all })
     ]
+
+pub offer_one-requires-clause-sized : goal.offer_one-requires-clause-sized
+offer_one-requires-clause-sized c = grind (arith, elements)
+
+pub offer_one-requires-clause-room : goal.offer_one-requires-clause-room
+offer_one-requires-clause-room c = grind (arith, elements)
+
+pub offer_one-requires-clause-fewer : goal.offer_one-requires-clause-fewer
+offer_one-requires-clause-fewer c = grind (arith, elements)

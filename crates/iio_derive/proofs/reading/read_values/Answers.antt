@@ -1,4 +1,5 @@
 use Rattle.std.proofs.Common.{arith}
+use Rattle.std.proofs.lemmas.Grind.{common_steps}
 use Rattle.iio_layout.specs.Laws.{data_channel}
 use Rattle.iio_derive.proofs.ReadLemmas.{values_more}
 use Rattle.iio_derive.proofs.reading.read_values.Goals as goal
@@ -14,3 +15,9 @@ loop-c-preserved c =
       few = omega arith;
       room = omega arith;
     }
+
+pub bounds-places-c : goal.bounds-places-c
+bounds-places-c c = grind (arith, common_steps)
+
+pub slice_bounds-read_channel-end : goal.slice_bounds-read_channel-end
+slice_bounds-read_channel-end c = grind (arith, common_steps)

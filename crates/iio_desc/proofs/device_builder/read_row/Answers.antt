@@ -1,4 +1,5 @@
 use Rattle.std.proofs.Common.{◌≡◌, ◌∷◌, Some, true, sym, ◌∙◌, rules, length, vec_len, arith}
+use Rattle.std.proofs.lemmas.Grind.{common_steps}
 use Rattle.std.proofs.lemmas.Int.{to_z-of_z}
 use mir.Val.{SFits}
 use mir.Syntax.{w64}
@@ -21,3 +22,12 @@ returns-clause-ok c =
     let parted : words_of is_space c.args.words.now ≡ c.in_ok-moment.moment.now ∷ words_of is_space c.in_ok-moment.rest.now = first.words in
     let len : vec_len c.args.values.now ≡ length c.args.values.now.items = omega (arith, c.args.values.now.ok.0) in
     simp to_z-of_z (rw len (row_of-read c.args.moments.now _ _ _ m c.args.values.now.items _ parted read risen c.in_ok-push_ints.ensures.ok))
+
+pub returns-in_err-moment-clause-before : goal.returns-in_err-moment-clause-before
+returns-in_err-moment-clause-before c = grind (arith, common_steps)
+
+pub returns-in_err-moment-2-clause-before : goal.returns-in_err-moment-2-clause-before
+returns-in_err-moment-2-clause-before c = grind (arith, common_steps)
+
+pub returns-in_err-ensure-clause-before : goal.returns-in_err-ensure-clause-before
+returns-in_err-ensure-clause-before c = grind (arith, common_steps)

@@ -1,4 +1,5 @@
-use Rattle.std.proofs.Common.{rules, sym, ◌∙◌, Ok}
+use Rattle.std.proofs.Common.{rules, sym, ◌∙◌, Ok, arith}
+use Rattle.std.proofs.lemmas.Grind.{common_steps}
 use Rattle.std.proofs.lemmas.Result.{err_from_is_err_and}
 use Rattle.std.specs.Option.{option_copied}
 use Rattle.iiod_grammar.specs.View.{place_view}
@@ -39,3 +40,6 @@ returns-else-of_buffer-clause-told g c =
     (search rules) c.plugged-plugged.ensures c.shape.ensures c.is_of_buffer-of_buffer.ensures
     (c.in_ok-target.ensures (kind_at _ c.args.dev) c.kind_of-kind.ensures)
     (rw c.if-of_buffer.false (c.read_device.ensures.told (client_of g.I.Iio.seen c.args.client.now)))
+
+pub returns-else-of_buffer-clause-client : goal.returns-else-of_buffer-clause-client
+returns-else-of_buffer-clause-client g c = grind (arith, common_steps)

@@ -1,4 +1,5 @@
-use Rattle.std.proofs.Common.{rules}
+use Rattle.std.proofs.Common.{arith, rules}
+use Rattle.std.proofs.lemmas.Grind.{elements}
 use Rattle.std.proofs.lemmas.Result.{err_from_is_err_and}
 use Rattle.iiod_commands.specs.Client.{client_of}
 use Rattle.iio_core.specs.Front.{kind_at}
@@ -30,3 +31,6 @@ returns-clause-moves g c =
 
 pub join-requires-clause-cycles : goal.join-requires-clause-cycles
 join-requires-clause-cycles g c = (c.in_ok-wanted.ensures.wanted (kind_at _ c.args.dev) c.is_output.ensures).cycles
+
+pub join-requires-clause-may_open : goal.join-requires-clause-may_open
+join-requires-clause-may_open g c = grind (arith, elements)

@@ -1,4 +1,5 @@
-use Rattle.std.proofs.Common.{ℕ, ◌∙◌, List, ap, rules}
+use Rattle.std.proofs.Common.{ℕ, ◌∙◌, List, ap, rules, arith}
+use Rattle.std.proofs.lemmas.Grind.{elements}
 use Rattle.std.proofs.lemmas.List.Elements.{All-set}
 use Rattle.iio_desc.specs.Kind.{is_output}
 use Rattle.iio_core.specs.Front.{kind_at}
@@ -39,3 +40,6 @@ write_held-requires-clause-written g c =
     ap (λ (d : ℕ). is_output (kind_at (g.I.Iio.front (g.I.Iio.kept c.args.iio.now)) d))
     (dev_is g.I.Iio.seen c.args.dev c.in-Some.i c.args.client.now.held.items c.index_mut.result.now (search rules) (search rules) c.index_mut.ensures.value)
     ∙ c.requires.written
+
+pub write_held-requires-clause-held : goal.write_held-requires-clause-held
+write_held-requires-clause-held g c = grind (arith, elements)

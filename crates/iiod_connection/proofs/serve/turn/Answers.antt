@@ -1,4 +1,5 @@
 use Rattle.std.proofs.Common.{rules, ◌≡◌, Err, ap, arith, ◌∙◌}
+use Rattle.std.proofs.lemmas.Grind.{common_steps}
 use Rattle.iiod_connection.specs.Place.{place_of}
 use Rattle.iiod_connection.proofs.TalkLaws.{part_err, part_more}
 use Rattle.iiod_connection.proofs.serve.turn.Goals as goal
@@ -33,3 +34,9 @@ loop-done-preserved g c =
           (g.L.Link.written c.args.link.now) (g.L.Link.written c.loop-done.link) (g.L.Link.written c.hear.new.link) c.in_ok-hear.field-0
           (ap g.B.Iio.front inv.kept) (omega (arith, c.part_end-until.ensures.more)) inv.sends c.in_ok-hear.ensures.turns;
     }
+
+pub loop-done-init : goal.loop-done-init
+loop-done-init g c = grind (arith, common_steps)
+
+pub returns-clause-turns : goal.returns-clause-turns
+returns-clause-turns g c = grind (arith, common_steps)

@@ -1,4 +1,5 @@
 use Rattle.std.proofs.Common.{rules, ◌≡◌, ◌+◌, ◌≤◌, ℕ, ℤ, List, Option, SFits, w64, slice_index_or, length, ap, sym, subst, refl, ◌∙◌, arith}
+use Rattle.std.proofs.lemmas.Grind.{common_steps}
 use Rattle.std.proofs.lemmas.List.{with_items_is}
 use Rattle.std.proofs.lemmas.Int.{to_z-of_z}
 use Rattle.iio_derive.specs.declared.members.Membership.{Membership}
@@ -107,3 +108,9 @@ pub returns-then-self-clause-averaged : goal.returns-then-self-clause-averaged
 returns-then-self-clause-averaged c captures is =
     let low : 1 ≤ c.args.self.now.size = (let low = c.self.invariant.low in rw (← c.self.view_is) (omega (arith, low))) in
     adds_means c.args.scan.now _ c.args.self.now _ captures low (returns-then-self-clause-adds c) is
+
+pub invariant_of-self : goal.invariant_of-self
+invariant_of-self c = grind (arith, common_steps)
+
+pub offer_all-requires-clause-width : goal.offer_all-requires-clause-width
+offer_all-requires-clause-width c = grind (arith, common_steps)

@@ -1,4 +1,5 @@
-use Rattle.std.proofs.Common.{◌≡◌, ℤ, List, [], ◌∷◌, ◌++◌, ap, sym, ◌∙◌, vec_len, drop, Ok, rules}
+use Rattle.std.proofs.Common.{◌≡◌, ℤ, List, [], ◌∷◌, ◌++◌, ap, sym, ◌∙◌, vec_len, drop, Ok, rules, arith}
+use Rattle.std.proofs.lemmas.Grind.{common_steps}
 use Rattle.std.proofs.lemmas.Int.{to_z-of_z}
 use Rattle.std.proofs.lemmas.List.{take-append-drop}
 use mir.Val.{SFits}
@@ -36,3 +37,6 @@ invariant_of-self-2 c =
       whole = rw (front, later) (whole_push old vs moments m (row_width (partial_device inside)) c.self.invariant.whole (row.size ∙ c.self.invariant.width));
       writes = c.self.invariant.writes;
     }
+
+pub returns-clause-line : goal.returns-clause-line
+returns-clause-line c = grind (arith, common_steps)

@@ -1,4 +1,5 @@
-use Rattle.std.proofs.Common.{◌≡◌, ℕ, ℤ, List, refl, ap, ◌∙◌}
+use Rattle.std.proofs.Common.{◌≡◌, ℕ, ℤ, List, refl, ap, ◌∙◌, arith}
+use Rattle.std.proofs.lemmas.Grind.{common_steps}
 use Rattle.std.specs.Int.{w64}
 use Rattle.std.proofs.lemmas.Int.{to_z-of_z}
 use Rattle.iio_mask.specs.declared.Mask.{Mask}
@@ -48,3 +49,6 @@ returns-then-is_for-clause-scan c =
     ∙ ap (λ (m : Mask). scan m.bits held.come) mask
     ∙ ap (scan c.args.active.bits) (before ∙ come)
     ∙ ap (λ (r : RecordedRecord). scan_of shape c.args.active.bits (values_of (driver_of r) shape c.args.t) c.args.t) c.self.view_is
+
+pub returns-then-is_for-clause-asked : goal.returns-then-is_for-clause-asked
+returns-then-is_for-clause-asked c = grind (arith, common_steps)
