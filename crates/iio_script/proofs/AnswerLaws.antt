@@ -1,5 +1,5 @@
 -- What was written before a further piece was taken.
-use Rattle.std.proofs.Common.{◌≡◌, ◌⊎◌, ℕ, zero, suc, ◌+◌, Bool, true, false, cond, List, [], ◌∷◌, ◌++◌, length, take, Option, Some, None, IfSome, IfNone, Result, Ok, Err, refl, sym, ap, ◌∙◌, inr, arith, append-nil, rules}
+use Rattle.std.proofs.Common.{◌≡◌, ℕ, zero, suc, ◌+◌, Bool, true, false, cond, List, [], ◌∷◌, ◌++◌, length, take, Option, Some, Result, Ok, Err, refl, sym, ap, ◌∙◌, inr, arith, append-nil, rules}
 use Rattle.std.proofs.lemmas.Grind.{common_steps}
 use Rattle.std.proofs.lemmas.List.{take_all, drop_all}
 use Rattle.iio_text.specs.Lines.{lines_of}
@@ -10,8 +10,7 @@ use Rattle.iio_desc.specs.Lines.{is_end}
 use Rattle.iio_history.specs.Input.{ended_part}
 use Rattle.iio_history.specs.Outcome.{Cut, Faulty, Head, described, head_from}
 use Rattle.iio_history.specs.Script.{Finished, script_from, script_text}
-use Rattle.iio_script.specs.declared.line_reader.Found.{Found}
-use Rattle.iio_script.specs.LineReader.{Follows, Hand, IsHand, NeedsMore, taken_of}
+use Rattle.iio_script.specs.LineReader.{Follows, Hand, IsHand, taken_of}
 use Rattle.iio_script.specs.Plays.{AnswersScript, Start}
 use Rattle.iio_script.specs.Told.{TakesUnended}
 use Rattle.iio_script.proofs.FrontLaws.{end_count}
@@ -88,9 +87,3 @@ answers_found start given input sent h begin left is all going follows =
       more = [];
       written = all ∙ sym (append-nil (script_text start.setup (script_from start.setup.desc Finished [] start.first given)));
     })
-
--- a line that a look has found needs no read; before any other, nothing was kept
-pub read_on : (seen : Option Found) (l1 l2 : Option (List ℕ)) (h1 h2 : Hand) (kept : List ℕ) → IfSome seen (λ _. l2 ≡ l1) → (seen ≡ None → kept ≡ [])
-    → IfNone seen (NeedsMore h1)
-    → h2.over ≡ h1.over → (l2 ≡ l1) ⊎ ((h2.over ≡ false) × (kept ≡ []))
-read_on seen l1 l2 h1 h2 kept same flushed needs over = search rules

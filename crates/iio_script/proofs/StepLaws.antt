@@ -74,27 +74,26 @@ module _ {X : Type 0} {V : X → Type 0} (driver : Plug X V → Driver) where
     pub follows : (input : List ℕ) (front : List (List ℕ)) → Follows input front h left → Follows input (front ++ given) h' left'
     pub answers : (input : List ℕ) (front : List (List ℕ)) → Follows input front h left → AnswersScript (start_of s first front) input sent left left'
 
-  pub so_far_first : (s : Setup) (x : System X V) (kept : List ℕ) (first : ℕ) (h : Hand) (left written : Option (List ℕ)) → kept ≡ []
+  pub so_far_first : {s : Setup} {x : System X V} {kept : List ℕ} {first : ℕ} {h : Hand} {left written : Option (List ℕ)} → kept ≡ []
       → Plays driver s x [] (progress_of first first [])
       → SoFar s x kept first first h h left left written written
-  so_far_first s x kept first h left written none plays = search rules
+  so_far_first {s} {x} {kept} {first} {h} {left} {written} none plays = search rules
 
   -- some of it was written
-  pub so_far_sent : (s : Setup) (x : System X V) (kept kept' : List ℕ) (first n : ℕ) (h h1 h2 : Hand) (left left' written w1 w2 : Option (List ℕ))
-      → ((input : List ℕ) (front : List (List ℕ)) (l : Option (List ℕ)) → Follows input front h1 l → Follows input front h2 l) → Sends w1 w2 kept kept'
-      → SoFar s x kept first n h h1 left left' written w1 → SoFar s x kept' first n h h2 left left' written w2
-  so_far_sent s x kept kept' first n h h1 h2 left left' written w1 w2 keeps sends so = record {
+  so_far_sent : (s : Setup) (x : System X V) (kept kept' : List ℕ) (first n : ℕ) (h h' : Hand) (left left' written w1 w2 : Option (List ℕ))
+      → Sends w1 w2 kept kept' → SoFar s x kept first n h h' left left' written w1 → SoFar s x kept' first n h h' left left' written w2
+  so_far_sent s x kept kept' first n h h' left left' written w1 w2 sends so = record {
     given = so.given;
     sent = so.sent ++ sends.sent;
     writes = sends_more written w1 w2 so.sent kept kept' so.writes sends;
     plays = grind (arith, common_steps);
     count = so.count;
-    follows = λ input front follows. keeps input (front ++ so.given) left' (so.follows input front follows);
+    follows = so.follows;
     answers = λ input front follows. answers_more (start_of s first front) input so.sent sends.sent left left' (so.answers input front follows);
   }
 
   -- the next line was looked for
-  pub so_far_found : (s : Setup) (x : System X V) (kept : List ℕ) (first n : ℕ) (h h1 h2 : Hand) (left l1 l2 written written' : Option (List ℕ))
+  so_far_found : (s : Setup) (x : System X V) (kept : List ℕ) (first n : ℕ) (h h1 h2 : Hand) (left l1 l2 written written' : Option (List ℕ))
       → ((input : List ℕ) (front : List (List ℕ)) → Follows input front h1 l1 → Follows input front h2 l2) → IsHand h2 → (l2 ≡ l1)
       ⊎ ((h2.over ≡ false) × (kept ≡ []))
       → SoFar s x kept first n h h1 left l1 written written' → SoFar s x kept first n h h2 left l2 written written'
@@ -116,13 +115,23 @@ module _ {X : Type 0} {V : X → Type 0} (driver : Plug X V → Driver) where
           (sym (append-nil so.sent) ∙ ap (λ k. so.sent ++ k) (sym none) ∙ plays_all driver s x (so.sent ++ kept) _ so.plays) going
           (keeps input (front ++ so.given) (so.follows input front follows))
 
+  -- what is kept was written if it had to be, and the next line was looked for
+  pub so_far_next : {s : Setup} {x : System X V} {kept kept' : List ℕ} {first n : ℕ} {h h1 h2 : Hand} {left l1 l2 written w1 w2 : Option (List ℕ)}
+      → ((input : List ℕ) (front : List (List ℕ)) → Follows input front h1 l1 → Follows input front h2 l2) → IsHand h2
+      → (l2 ≡ l1) ⊎ ((h2.over ≡ false) × (kept' ≡ [])) → Sends w1 w2 kept kept'
+      → SoFar s x kept first n h h1 left l1 written w1 → SoFar s x kept' first n h h2 left l2 written w2
+  so_far_next {s} {x} {kept} {kept'} {first} {n} {h} {h1} {h2} {left} {l1} {l2} {written} {w1} {w2} keeps is read sends so =
+      so_far_found s x kept' first n h h1 h2 left l1 l2 written w2 keeps is read
+      (so_far_sent s x kept kept' first n h h1 left l1 written w1 w2 sends so)
+
   -- it was played
-  pub so_far_played : (s : Setup) (x x' : System X V) (kept kept' line : List ℕ) (first n : ℕ) (h h1 h2 : Hand) (left left' written written' : Option (List ℕ))
+  pub so_far_played : {s : Setup} {x x' : System X V} {kept kept' line : List ℕ} {first n : ℕ} {h h1 h2 : Hand} {left left' written written' : Option (List ℕ)}
       → ((input : List ℕ) (front : List (List ℕ)) (l : Option (List ℕ)) → Follows input front h1 l → Follows input (front ++ line_of h1 ∷ []) h2 l)
       → line ≡ line_of h1
       → (so : SoFar s x kept first n h h1 left left' written written') → Plays driver s x' (so.sent ++ kept') (with_line (progress_of first n so.given) line)
       → SoFar s x' kept' first (n + 1) h h2 left left' written written'
-  so_far_played s x x' kept kept' line first n h h1 h2 left left' written written' passes same so plays = grind (arith, common_steps)
+  so_far_played {s} {x} {x'} {kept} {kept'} {line} {first} {n} {h} {h1} {h2} {left} {left'} {written} {written'} passes same so plays =
+      grind (arith, common_steps)
 
   -- ---- the end
 
@@ -131,41 +140,40 @@ module _ {X : Type 0} {V : X → Type 0} (driver : Plug X V → Driver) where
       → more ≡ given ++ rest
   given_of front given more rest input is begins = same_rest front more (given ++ rest) (sym is ∙ begins ∙ append_assoc front given rest)
 
-  pub ends_fault : (s : Setup) (x : System X V) (kept kept' : List ℕ) (first n : ℕ) (h h' : Hand) (left left' written written' : Option (List ℕ))
-      (front more : List (List ℕ)) (input : List ℕ) (st : Status)
+  pub ends_fault : {s : Setup} {x : System X V} {kept : List ℕ} {first n : ℕ} {h h' : Hand} {left left' written written' : Option (List ℕ)}
+      {front : List (List ℕ)} {input : List ℕ} {result : Result Status Status} (kept' : List ℕ) (more : List (List ℕ)) (st : Status) → result ≡ Err st
       → IsHand h' → Follows input front h left → scanned_lines input ≡ front ++ more → SoFar s x kept first n h h' left left' written written'
-      → Ended s first front more input (Err st) kept' left left' written written'
-  ends_fault s x kept kept' first n h h' left left' written written' front more input st is follows looked so =
+      → Ended s first front more input result kept' left left' written written'
+  ends_fault {s} {x} {kept} {first} {n} {h} {h'} {left} {left'} {written} {written'} {front} {input} kept' more st fails is follows looked so =
       let now = so.follows input front follows in
       let begins = follows_begin input (front ++ so.given) h' left' is now in
       let lines : more ≡ so.given ++ begins.more = given_of front so.given more begins.more input looked begins.parts in
       let whole : IsFrontOf (script_outcome s input first more) (so.sent ++ kept) =
       subst (λ (ls : List (List ℕ)). IsFrontOf (script_outcome s input first ls) (so.sent ++ kept)) (sym lines)
-      (plays_front driver s x (so.sent ++ kept) _ begins.more (last_ending (is_overlong input)) so.plays) in (
+      (plays_front driver s x (so.sent ++ kept) _ begins.more (last_ending (is_overlong input)) so.plays) in
+      subst (λ (r : Result Status Status). Ended s first front more input r kept' left left' written written') (sym fails) (
         so.sent,
         so.writes,
         record { rest = kept ++ whole.rest; parts = whole.parts ∙ append_assoc so.sent kept whole.rest },
-        takes_at_most input
-            (front ++ so.given) h' left' is now,
+        takes_at_most input (front ++ so.given) h' left' is now,
         so.answers input front follows,
       )
 
-  -- a write failed
-  pub ends_sent_fault : (s : Setup) (x : System X V) (kept kept' : List ℕ) (first n : ℕ) (h h1 h2 : Hand) (left left' written w1 w2 : Option (List ℕ))
-      (front more : List (List ℕ)) (input : List ℕ) (st : Status)
-      → ((input : List ℕ) (front : List (List ℕ)) (l : Option (List ℕ)) → Follows input front h1 l → Follows input front h2 l) → IsHand h2
+  -- a write failed, and nothing was read
+  pub ends_write_fault : {s : Setup} {x : System X V} {kept : List ℕ} {first n : ℕ} {h h1 h2 : Hand} {left l1 l2 written w1 w2 : Option (List ℕ)}
+      {front : List (List ℕ)} {input : List ℕ} {result : Result Status Status} (kept' : List ℕ) (more : List (List ℕ)) (st : Status) → result ≡ Err st
+      → ((input : List ℕ) (front : List (List ℕ)) → Follows input front h1 l1 → Follows input front h2 l2) → IsHand h2 → l2 ≡ l1
       → Follows input front h left → scanned_lines input ≡ front ++ more → ((rest : List ℕ) × Sends w1 w2 kept rest)
-      → SoFar s x kept first n h h1 left left' written w1
-      → Ended s first front more input (Err st) kept' left left' written w2
-  ends_sent_fault s x kept kept' first n h h1 h2 left left' written w1 w2 front more input st keeps is follows looked sends so =
-      ends_fault s x sends.0 kept' first n h h2 left left' written w2 front more input st is follows looked
-      (so_far_sent s x kept sends.0 first n h h1 h2 left left' written w1 w2 keeps sends.1 so)
+      → SoFar s x kept first n h h1 left l1 written w1
+      → Ended s first front more input result kept' left l2 written w2
+  ends_write_fault kept' more st fails keeps is same follows looked sends so =
+      ends_fault kept' more st fails is follows looked (so_far_next keeps is (inl same) sends.1 so)
 
-  pub ends_read_fault : (s : Setup) (x : System X V) (kept : List ℕ) (first n : ℕ) (h h' : Hand) (left left' written written' : Option (List ℕ))
-      (front more : List (List ℕ)) (input : List ℕ)
+  pub ends_read_fault : {s : Setup} {x : System X V} {kept : List ℕ} {first n : ℕ} {h h' : Hand} {left left' written written' : Option (List ℕ)}
+      {front : List (List ℕ)} {input : List ℕ} (more : List (List ℕ))
       → IsHand h' → NeedsMore h' → Follows input front h left → scanned_lines input ≡ front ++ more → SoFar s x kept first n h h' left left' written written'
       → Ended s first front more input (Ok status.ReadFault) kept left left' written written'
-  ends_read_fault s x kept first n h h' left left' written written' front more input is needs follows looked so =
+  ends_read_fault {s} {x} {kept} {first} {n} {h} {h'} {left} {left'} {written} {written'} {front} {input} more is needs follows looked so =
       let now = so.follows input front follows in
       let begins = follows_begin input (front ++ so.given) h' left' is now in
       let lines : more ≡ so.given ++ begins.more = given_of front so.given more begins.more input looked begins.parts in
@@ -207,12 +215,12 @@ module _ {X : Type 0} {V : X → Type 0} (driver : Plug X V → Driver) where
       )
 
   -- the input's end
-  pub ends_done : (s : Setup) (x : System X V) (kept kept' : List ℕ) (first n : ℕ) (h h' : Hand) (left left' written written' : Option (List ℕ))
-      (front more : List (List ℕ)) (input : List ℕ)
+  pub ends_done : {s : Setup} {x : System X V} {kept kept' : List ℕ} {first n : ℕ} {h h' : Hand} {left left' written written' : Option (List ℕ)}
+      {front : List (List ℕ)} {input : List ℕ} (more : List (List ℕ))
       → IsHand h' → IsDone h' → Follows input front h left → scanned_lines input ≡ front ++ more → kept' ≡ kept
       → SoFar s x kept first n h h' left left' written written'
       → Ended s first front more input (Ok status.Done) kept' left left' written written'
-  ends_done s x kept kept' first n h h' left left' written written' front more input is done follows looked same so =
+  ends_done {s} {x} {kept} {kept'} {first} {n} {h} {h'} {left} {left'} {written} {written'} {front} {input} more is done follows looked same so =
       let now = so.follows input front follows in
       let none = no_line input (front ++ so.given) h' left' is done now in
       ends_last s x kept kept' first n h h' left left' written written' front more input false status.Done looked so none.0 none.1
@@ -220,11 +228,11 @@ module _ {X : Type 0} {V : X → Type 0} (driver : Plug X V → Driver) where
       (record { end = tt; ends = refl; printed = same ∙ sym (append-nil kept) })
 
   -- the system then stands for the history of the script's steps
-  pub stands_done : (s : Setup) (x : System X V) (kept : List ℕ) (first n : ℕ) (h h' : Hand) (left left' written written' : Option (List ℕ))
+  pub stands_done : {s : Setup} {x : System X V} {kept : List ℕ} {first n : ℕ} {h h' : Hand} {left left' written written' : Option (List ℕ)}
       (front more : List (List ℕ)) (input : List ℕ)
       → IsHand h' → IsDone h' → Follows input front h left → scanned_lines input ≡ front ++ more → SoFar s x kept first n h h' left left' written written'
       → StandsFor driver s (with_steps s [] (script_from s.desc (last_ending (is_overlong input)) [] first more).steps) x
-  stands_done s x kept first n h h' left left' written written' front more input is done follows looked so =
+  stands_done {s} {x} {kept} {first} {n} {h} {h'} {left} {left'} {written} {written'} front more input is done follows looked so =
       let none = no_line input (front ++ so.given) h' left' is done (so.follows input front follows) in
       let lines : more ≡ so.given = same_rest front more so.given (sym looked ∙ none.0) in
       subst (λ (ls : List (List ℕ)). StandsFor driver s (with_steps s [] (script_from s.desc (last_ending (is_overlong input)) [] first ls).steps) x)
@@ -232,11 +240,11 @@ module _ {X : Type 0} {V : X → Type 0} (driver : Plug X V → Driver) where
       (plays_done driver s x (so.sent ++ kept) _ (last_ending (is_overlong input)) so.plays)
 
   -- the end of what is looked at
-  pub ends_cut : (s : Setup) (x : System X V) (kept kept' : List ℕ) (first n : ℕ) (h h' : Hand) (left left' written written' : Option (List ℕ))
-      (front more : List (List ℕ)) (input : List ℕ) (st : Status)
+  pub ends_cut : {s : Setup} {x : System X V} {kept kept' : List ℕ} {first n : ℕ} {h h' : Hand} {left left' written written' : Option (List ℕ)}
+      {front : List (List ℕ)} {input : List ℕ} {st : Status} (more : List (List ℕ))
       → IsHand h' → IsCut h' → Follows input front h left → scanned_lines input ≡ front ++ more → Finishes (only_ending (last_ending true)) st kept kept'
       → SoFar s x kept first n h h' left left' written written' → Ended s first front more input (Ok st) kept' left left' written written'
-  ends_cut s x kept kept' first n h h' left left' written written' front more input st is cut follows looked f so =
+  ends_cut {s} {x} {kept} {kept'} {first} {n} {h} {h'} {left} {left'} {written} {written'} {front} {input} {st} more is cut follows looked f so =
       let now = so.follows input front follows in
       let none = cut_line input (front ++ so.given) h' left' is cut now in
       ends_last s x kept kept' first n h h' left left' written written' front more input true st looked so none.0 none.1
@@ -259,15 +267,16 @@ module _ {X : Type 0} {V : X → Type 0} (driver : Plug X V → Driver) where
       → (so : SoFar s x kept first n h h' left left' written written') → n ≡ length (front ++ so.given) + 1
   next_number s x kept first n h h' left left' written written' front at so = omega (arith, at, so.count, length-append front so.given)
 
-  pub ends_refused : (s : Setup) (x : System X V) (kept kept' line : List ℕ) (first n : ℕ) (h h' : Hand) (left left' written written' : Option (List ℕ))
-      (front more : List (List ℕ)) (input : List ℕ) (st : Status)
+  pub ends_refused : {s : Setup} {x : System X V} {kept line : List ℕ} {first n : ℕ} {h h' : Hand} {left left' written written' : Option (List ℕ)}
+      {front : List (List ℕ)} {input : List ℕ} {st : Status} (kept' : List ℕ) (more : List (List ℕ))
       → IsHand h' → HasLine h' → Follows input front h left → first ≡ length front + 1 → scanned_lines input ≡ front ++ more → line ≡ line_of h'
       → IsRefusedWith n st
       → (so : SoFar s x kept first n h h' left left' written written')
       → ((ending : Ending) (lines : List (List ℕ))
       → Finishes (outcome_of_script s (script_from s.desc ending [] first (so.given ++ line ∷ lines))) st [] (so.sent ++ kept'))
       → Ended s first front more input (Ok st) kept' left left' written written'
-  ends_refused s x kept kept' line first n h h' left left' written written' front more input st is has follows at looked same number so f =
+  ends_refused {s} {x} {kept} {line} {first} {n} {h} {h'} {left} {left'} {written} {written'} {front} {input} {st} kept' more is has
+      follows at looked same number so f =
       let now = so.follows input front follows in
       let next = next_line input (front ++ so.given) h' left' is has now in
       let begins : scanned_lines input ≡ (front ++ so.given) ++ line ∷ next.more = grind (arith, common_steps) in
@@ -278,12 +287,12 @@ module _ {X : Type 0} {V : X → Type 0} (driver : Plug X V → Driver) where
       (next_number s x kept first n h h' left left' written written' front at so)))
       (f (last_ending (is_overlong input)) next.more)
 
-  pub ends_long : (s : Setup) (x : System X V) (kept kept' : List ℕ) (first n : ℕ) (h h' : Hand) (left left' written written' : Option (List ℕ))
-      (front more : List (List ℕ)) (input : List ℕ) (st : Status)
+  pub ends_long : {s : Setup} {x : System X V} {kept kept' : List ℕ} {first n : ℕ} {h h' : Hand} {left left' written written' : Option (List ℕ)}
+      {front : List (List ℕ)} {input : List ℕ} {st : Status} (more : List (List ℕ))
       → IsHand h' → IsLong h' → Follows input front h left → first ≡ length front + 1 → scanned_lines input ≡ front ++ more
       → Finishes (only_ending (Refused n Long)) st kept kept'
       → SoFar s x kept first n h h' left left' written written' → Ended s first front more input (Ok st) kept' left left' written written'
-  ends_long s x kept kept' first n h h' left left' written written' front more input st is long follows at looked f so =
+  ends_long {s} {x} {kept} {kept'} {first} {n} {h} {h'} {left} {left'} {written} {written'} {front} {input} {st} more is long follows at looked f so =
       let now = so.follows input front follows in
       let next = long_line input (front ++ so.given) h' left' is long now in
       refused s x kept kept' first n h h' left left' written written' front more next.more next.line input st looked so next.parts

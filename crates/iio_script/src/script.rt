@@ -1,6 +1,6 @@
 //! Playing an input: its description, and then its steps.
 
-ghost use Rattle.std.specs.Prelude.{◌≡◌, ◌+◌, ◌*◌, ◌^◌, ◌≤◌, ◌<◌, [], ◌∷◌, ◌++◌, ℕ, Ok, Err, IfErr, IfOk, IfSome, IfNone, None, Some, List, OnErr, OnOk, Option, length, map};
+ghost use Rattle.std.specs.Prelude.{◌≡◌, ◌⊎◌, ◌+◌, ◌*◌, ◌^◌, ◌≤◌, ◌<◌, [], ◌∷◌, ◌++◌, ℕ, false, Ok, Err, IfErr, IfOk, IfSome, IfNone, None, Some, List, OnErr, OnOk, Option, length, map};
 ghost use Rattle.iio_base.specs.Faults.{Rose};
 ghost use Rattle.iio_io.specs.Bytes.{TakesAtMost};
 ghost use Rattle.iio_desc.specs.Description.{heads_of};
@@ -209,6 +209,39 @@ fn write_ready<K: Sink>(
     Ok(seen)
 }
 
+// Finds the next line, like `LineReader::find`, after what is kept was written if it has to be. If that fails, nothing is read.
+fn next_line<S: Source, K: Sink>(
+    lines: &mut LineReader,
+    input: &mut S,
+    output: &mut K,
+    out: &mut Vec<u8>,
+) -> Result<Result<Found, ReadEnd>, Status>
+    requires hand { IsHand lines.old }
+    ensures found { IfOk result (λ read. IfOk read (λ found. Shows found lines.new)) }
+    ensures more { IfOk result (λ read. OnErr read (NeedsMore lines.new)) }
+    ensures follows { (input' : List ℕ) (front : List (List ℕ)) → Follows input' front lines.old (S.left input.old)
+        → Follows input' front lines.new (S.left input.new) }
+    ensures given { lines.new.given ≡ lines.old.given }
+    ensures hand { IsHand lines.new }
+    ensures read { OnOk result ((S.left input.new ≡ S.left input.old) ⊎ ((lines.new.over ≡ false) × (out.new.items ≡ []))) }
+    ensures flushed { IfOk result (λ read. OnErr read (out.new.items ≡ [])) }
+    ensures few { OnOk result (length out.new.items < 61_440) }
+    ensures sends { OnOk result (Sends (K.written output.old) (K.written output.new) out.old.items out.new.items) }
+    ensures part { OnErr result ((rest : List ℕ) × Sends (K.written output.old) (K.written output.new) out.old.items rest) }
+    ensures unread { OnErr result (input.new ≡ input.old) }
+    ensures err { IfErr result (λ status. status ≡ Status.WriteFault) }
+    ensures write_fault { OnErr result (Rose (K.faults output.old) (K.faults output.new)) }
+    ensures read_fault { result ≡ Ok (Err ReadEnd.Failed) → Rose (S.faults input.old) (S.faults input.new) }
+    ensures memory { result ≡ Ok (Err ReadEnd.Mem) → S.faults input.new ≡ S.faults input.old }
+    ensures reads { IfOk result (λ read. OnOk read (S.faults input.new ≡ S.faults input.old)) }
+    ensures writes { OnOk result (K.faults output.new ≡ K.faults output.old) }
+    ensures counted { (S.faults input.old ≤ S.faults input.new) × (K.faults output.old ≤ K.faults output.new) }
+    ensures silent { (IfNone (S.left input.old) (S.left input.new ≡ None)) × (IfNone (K.written output.old) (K.written output.new ≡ None)) }
+{
+    let seen = write_ready(lines, output, out)?;
+    Ok(lines.find_on(seen, input))
+}
+
 // Plays the steps of a script from a line on. The core is as it was before the first step. What is printed is written in
 // pieces, and all of it before a read. After an `Ok`, `out` has bytes that are still to be written; its status is that of the
 // script, or that of a failed read.
@@ -253,8 +286,7 @@ pub(crate) fn play_steps<S: Source, K: Sink>(
     let mut number = first;
     let mut room = Vec::new(alloc);
     loop {
-        let seen = write_ready(lines, output, out)?;
-        match lines.find_on(seen, input) {
+        match next_line(lines, input, output, out)? {
             Ok(Found::Line) => {}
             Ok(Found::Long) => return Ok(push_refused(alloc, out, number, Why::Long)?),
             Ok(Found::End) => return Ok(Status::Done),

@@ -28,7 +28,7 @@ channel temp le:s8/8>>0
 
 /// Steps before A's command, and what they print. In these states the device is plugged and not open; open here; open
 /// elsewhere; open here and unplugged; not open and unplugged.
-const STATES: [(&str, &str); 5] = [
+const STATES: &[(&str, &str)] = &[
     ("", ""),
     (
         r#"A "OPEN d 1 00000001\n"
@@ -557,7 +557,7 @@ fn plain_lines_in_each_state(rt: HostRuntime) -> Result<(), Fail> {
     for (line, answer) in PLAIN {
         for device in [INPUT, OUTPUT] {
             for state in STATES {
-                check_command(&rt, rt.alloc(), device, line, state, answer, "\"\n")?;
+                check_command(&rt, rt.alloc(), device, line, *state, answer, "\"\n")?;
             }
         }
     }

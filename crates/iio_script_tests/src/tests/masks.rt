@@ -97,27 +97,21 @@ fn masks_in_scripts(rt: HostRuntime) -> Result<(), Fail> {
     check_rows(&rt, rt.alloc(), ROWS)
 }
 
-/// Masks of `FIVE`, the number of bytes of three scans under each, and a scan at the moment 258.
-const SHARED: [(&str, u32, &str); 3] = [
-    (
-        "00000021",
-        48,
-        r"\x01\x00\x00\x00\x00\x00\x00\x00\x02\x01\x00\x00\x00\x00\x00\x00",
-    ),
-    ("0000000a", 12, r"\x02\x00\x04\x00"),
-    (
-        "0000003f",
-        72,
-        r"\x01\x00\x02\x00\x03\x00\x04\x00\x05\x00\x00\x00\x00\x00\x00\x00\x02\x01\x00\x00\x00\x00\x00\x00",
-    ),
-];
-
-// Returns the mask of a connection, the bytes of its scans and one of them: the three rows take turns.
+// Returns the mask of a connection at `FIVE`, the number of bytes of three scans under it, and a scan at the moment 258: three
+// rows take turns.
 fn shared_by(number: u32) -> (&'static str, u32, &'static str) {
     match number % 3 {
-        0 => SHARED[0],
-        1 => SHARED[1],
-        _ => SHARED[2],
+        0 => (
+            "00000021",
+            48,
+            r"\x01\x00\x00\x00\x00\x00\x00\x00\x02\x01\x00\x00\x00\x00\x00\x00",
+        ),
+        1 => ("0000000a", 12, r"\x02\x00\x04\x00"),
+        _ => (
+            "0000003f",
+            72,
+            r"\x01\x00\x02\x00\x03\x00\x04\x00\x05\x00\x00\x00\x00\x00\x00\x00\x02\x01\x00\x00\x00\x00\x00\x00",
+        ),
     }
 }
 

@@ -24,7 +24,7 @@ struct Fed {
     body: &'static [u8],
 }
 
-const FED: [Fed; 17] = [
+const FED: &[Fed] = &[
     Fed {
         asked: 4,
         text: b"4\n00000005\nabcd",
@@ -161,7 +161,7 @@ fn is_answer(alloc: Global, row: &Fed, cut: usize) -> Result<bool, Fail> {
 
 #[test]
 fn answers_at_every_cut(rt: HostRuntime) -> Result<(), Fail> {
-    for row in &FED {
+    for row in FED {
         for cut in 0..=row.text.len() {
             let right = is_answer(rt.alloc(), row, cut)?;
             assert!(rt; right, "of {:?} at {cut}", row.text);
@@ -236,6 +236,7 @@ fn link(
 }
 
 // A reading: the mask, the number of wanted scans, what the link gives, what is sent and printed, and the end.
+#[derive(Clone, Copy)]
 struct Row {
     mask: &'static str,
     scans: u32,
@@ -251,15 +252,17 @@ const READ_SENT: &[u8] = b"OPEN adc0 1 00000005\nREADBUF adc0 4\n";
 
 const READ_TWO_SENT: &[u8] = b"OPEN adc0 1 00000005\nREADBUF adc0 8\n";
 
-const ROWS: [Row; 14] = [
-    Row {
-        mask: "00000005",
-        scans: 1,
-        given: b"0\n4\n00000005\n\x10\x00\xff\xfd0\n",
-        sent: b"OPEN adc0 1 00000005\nREADBUF adc0 4\nCLOSE adc0\nEXIT\n",
-        printed: b"1000fffd voltage0=1 accel_x=-3\n",
-        end: ClientEnd::Done,
-    },
+const FIRST: Row = Row {
+    mask: "00000005",
+    scans: 1,
+    given: b"0\n4\n00000005\n\x10\x00\xff\xfd0\n",
+    sent: b"OPEN adc0 1 00000005\nREADBUF adc0 4\nCLOSE adc0\nEXIT\n",
+    printed: b"1000fffd voltage0=1 accel_x=-3\n",
+    end: ClientEnd::Done,
+};
+
+const ROWS: &[Row] = &[
+    FIRST,
     // Bytes after the last answer aren't looked at.
     Row {
         mask: "00000005",
@@ -389,7 +392,7 @@ fn is_reading(alloc: Global, ask: &Ask<'_>, row: &Row, piece: usize) -> Result<b
 #[test]
 fn reads_in_any_pieces(rt: HostRuntime) -> Result<(), Fail> {
     let shape = adc(rt.alloc())?;
-    for row in &ROWS {
+    for row in ROWS {
         assert!(rt; 1 <= row.scans);
         let ask = ask(&rt, &shape, row.mask, row.scans)?;
         for piece in 1..row.given.len() + 2 {
@@ -411,7 +414,7 @@ fn faulty_end(
 ) -> Result<Option<ClientEnd>, Fail>
     requires { IsAsk (wanted_by ask.now) }
 {
-    let row = &ROWS[0];
+    let row = FIRST;
     let mut link = link(alloc, row.given, 1, receives, sends)?;
     let mut output = MemSink::new(alloc, 65_536, writes.to_vec(alloc)?)?;
     let end = end_of(alloc, ask, &mut link, &mut output);
