@@ -5,9 +5,10 @@ ghost use Rattle.iio_desc.specs.DescReader.{line_count};
 
 use crate::tests::devices::ADC;
 use crate::tests::playing::{check_play, joined, push, push_many, push_numbered};
-use iio_desc::{Desc, DescFault, DescReader};
+use iio_desc::{Desc, DescFault, DescReader, read_desc};
 use iio_text::Why;
 use std::alloc::Global;
+use std::process::Abort;
 use std::test::Fail;
 
 const HEAD: &str = "trigger t0 8\ndevice adc0 t0\nchannel voltage0 le:u12/16>>4\n";
@@ -436,16 +437,19 @@ fn answer_to(reader: &mut DescReader, line: &[u8]) -> Result<(), DescFault>
 
 // Makes a description of devices of each kind, in mixed order.
 fn described_by_each_kind(alloc: Global) -> Result<Desc, DescFault> {
-    let mut reader = DescReader::new(alloc, 0)?;
-    answer_to(&mut reader, b"device a -")?;
-    answer_to(&mut reader, b"channel voltage le:s8/8")?;
-    answer_to(&mut reader, b"average m a 2")?;
-    answer_to(&mut reader, b"output o -")?;
-    answer_to(&mut reader, b"channel temp le:s8/8")?;
-    answer_to(&mut reader, b"device b -")?;
-    answer_to(&mut reader, b"channel temp le:s8/8")?;
-    answer_to(&mut reader, b"average n b 1000")?;
-    reader.finish()
+    read_desc(
+        alloc,
+        b"device a -
+channel voltage le:s8/8
+average m a 2
+output o -
+channel temp le:s8/8
+device b -
+channel temp le:s8/8
+average n b 1000
+",
+        0,
+    )
 }
 
 // Returns the base of an averaging device, and the number of captures that make a mean.
@@ -456,21 +460,20 @@ fn averaged(desc: &Desc, number: usize) -> Option<(u32, u32)> {
     }
 }
 
+fn check_numbers(rt: &impl Abort, desc: &Desc) {
+    for (name, number) in [(b"a", 0), (b"b", 1), (b"o", 2), (b"m", 3), (b"n", 4)] {
+        assert_eq!(rt; desc.find_device(name), Some(number));
+    }
+    assert_eq!(rt; averaged(desc, 0), Some((0, 2)));
+    assert_eq!(rt; averaged(desc, 1), Some((1, 1000)));
+}
+
 // A device keeps its number whatever lines come between; output devices
 // are numbered after all input devices, and averaging devices last.
 #[test]
 fn devices_are_numbered_by_kind(rt: HostRuntime) -> Result<(), Fail> {
     let desc = described_by_each_kind(rt.alloc())?;
-    let numbers = (
-        desc.find_device(b"a"),
-        desc.find_device(b"b"),
-        desc.find_device(b"o"),
-    );
-    assert_eq!(rt; numbers, (Some(0), Some(1), Some(2)));
-    let numbers = (desc.find_device(b"m"), desc.find_device(b"n"));
-    assert_eq!(rt; numbers, (Some(3), Some(4)));
-    assert_eq!(rt; averaged(&desc, 0), Some((0, 2)));
-    assert_eq!(rt; averaged(&desc, 1), Some((1, 1000)));
+    check_numbers(&rt, &desc);
     Ok(())
 }
 

@@ -129,6 +129,21 @@ fn check_printed(rt: &impl Abort, name: &str, printed: &[u8], wanted: &[u8]) {
     assert_eq!(rt; printed, wanted, "{name}");
 }
 
+// Checks what a run printed, and its exit code.
+fn check_run(
+    rt: &impl Abort,
+    name: &str,
+    ended: Result<Status, Fail>,
+    output: &MemSink,
+    printed: &[u8],
+    status: u8,
+) -> Result<(), Fail> {
+    let code = ended?.code();
+    check_printed(rt, name, output.written(), printed);
+    assert_eq!(rt; code, status, "{name}");
+    Ok(())
+}
+
 /// Checks scripts with their names, each of which is played to its
 /// end: a description, the steps after it, and what they print.
 pub(crate) fn check_rows(
@@ -154,10 +169,8 @@ pub(crate) fn check_play(
 ) -> Result<(), Fail> {
     let mut input = MemSource::new(text, 1000, Vec::new(alloc));
     let mut output = sink(alloc, 100_000, &[])?;
-    let ended = played(alloc, &mut input, &mut output)?.code();
-    check_printed(rt, name, output.written(), printed);
-    assert_eq!(rt; ended, status, "{name}");
-    Ok(())
+    let ended = played(alloc, &mut input, &mut output);
+    check_run(rt, name, ended, &output, printed, status)
 }
 
 /// Like `check_play`, with one driver: a ramp whose asks with these numbers fail.
@@ -171,10 +184,8 @@ pub(crate) fn check_driven(
 ) -> Result<(), Fail> {
     let mut input = MemSource::new(text, 1000, Vec::new(alloc));
     let mut output = sink(alloc, 100_000, &[])?;
-    let ended = driven(alloc, fails, &mut input, &mut output)?;
-    check_printed(rt, name, output.written(), printed);
-    assert_eq!(rt; ended, Status::Done, "{name}");
-    Ok(())
+    let ended = driven(alloc, fails, &mut input, &mut output);
+    check_run(rt, name, ended, &output, printed, 0)
 }
 
 /// Checks what is printed for a text that comes in pieces of that many
@@ -195,8 +206,12 @@ pub(crate) fn check_faults(
     let mut output = sink(alloc, 100_000, writes)?;
     let ended = played(alloc, &mut input, &mut output)?.code();
     let right = output.written() == printed && ended == status;
-    assert!(rt; right, "reads {reads:?}, writes {writes:?}: {ended}");
+    check_right(rt, right, ended, reads, writes);
     Ok(())
+}
+
+fn check_right(rt: &impl Abort, right: bool, ended: u8, reads: &[u64], writes: &[u64]) {
+    assert!(rt; right, "reads {reads:?}, writes {writes:?}: {ended}");
 }
 
 /// Makes a source that gives a text in pieces, and fails these reads.

@@ -15,10 +15,10 @@ use std::process::Abort;
 use std::test::Fail;
 
 /// The types of the base's channels in most tests.
-const TYPES: [&str; 3] = ["le:u12/16>>4", "le:s8/8>>0", "be:s16/16>>0"];
+const TYPES: &[&str] = &["le:u12/16>>4", "le:s8/8>>0", "be:s16/16>>0"];
 
 // A device whose base has channels voltage0 to voltage2 of these types, and a timestamp.
-fn device(alloc: Global, types: [&str; 3], window: u32, size: usize) -> Result<Average, Fail>
+fn device(alloc: Global, types: &[&str], window: u32, size: usize) -> Result<Average, Fail>
     requires low { 2 ≤ window }
     requires high { window ≤ 1000 }
     ensures { IfOk result (λ a. AreTested 0 size a.seats) }
@@ -141,7 +141,7 @@ fn check_take(
 fn check_mean(
     rt: &impl Abort,
     alloc: Global,
-    types: [&str; 3],
+    types: &[&str],
     mask: u64,
     captures: [[i64; 3]; 2],
     want: &[u8],
@@ -158,56 +158,62 @@ fn check_mean(
     Ok(())
 }
 
+// Two captures.
+const PAIR: [[i64; 3]; 2] = [[1, 2, -3], [4, 2, -4]];
+
+// A mask, two captures, and a scan of their means.
+const PAIRS: &[(u64, [[i64; 3]; 2], &[u8])] = &[
+    // 2, 2 and -3, rounded towards zero.
+    (5, PAIR, b"\x20\x00\xff\xfd"),
+    (3, PAIR, b"\x20\x00\x02\x00"),
+    (6, [[0, -128, 7], [0, -127, 8]], b"\x81\x00\x00\x07"),
+    (2, [[0, 127, 0], [0, 126, 0]], b"\x7e"),
+    // At the second capture's moment.
+    (
+        9,
+        PAIR,
+        b"\x20\x00\x00\x00\x00\x00\x00\x00\xd0\x07\x00\x00\x00\x00\x00\x00",
+    ),
+];
+
 #[test]
 fn averaged_pairs(rt: HostRuntime) -> Result<(), Fail> {
-    let pair = [[1, 2, -3], [4, 2, -4]];
-    let rows: [(u64, [[i64; 3]; 2], &[u8]); 5] = [
-        // 2, 2 and -3, rounded towards zero.
-        (5, pair, b"\x20\x00\xff\xfd"),
-        (3, pair, b"\x20\x00\x02\x00"),
-        (6, [[0, -128, 7], [0, -127, 8]], b"\x81\x00\x00\x07"),
-        (2, [[0, 127, 0], [0, 126, 0]], b"\x7e"),
-        // At the second capture's moment.
-        (
-            9,
-            pair,
-            b"\x20\x00\x00\x00\x00\x00\x00\x00\xd0\x07\x00\x00\x00\x00\x00\x00",
-        ),
-    ];
-    for (mask, captures, want) in rows {
-        check_mean(&rt, rt.alloc(), TYPES, mask, captures, want)?;
+    for (mask, captures, want) in PAIRS {
+        check_mean(&rt, rt.alloc(), TYPES, *mask, *captures, want)?;
     }
     Ok(())
 }
 
+const WIDE: &[&str] = &["le:s64/64>>0", "be:u63/64>>0", "le:u8/8>>0"];
+
 // Values at the ends of 64 and of 63 bits, whose sums need more bits.
+const ENDS: &[(u64, [[i64; 3]; 2], &[u8])] = &[
+    (
+        1,
+        [[i64::MAX, 0, 0], [i64::MAX, 0, 0]],
+        b"\xff\xff\xff\xff\xff\xff\xff\x7f",
+    ),
+    (
+        1,
+        [[i64::MIN, 0, 0], [i64::MIN, 0, 0]],
+        b"\x00\x00\x00\x00\x00\x00\x00\x80",
+    ),
+    (
+        1,
+        [[i64::MIN, 0, 0], [i64::MAX, 0, 0]],
+        b"\x00\x00\x00\x00\x00\x00\x00\x00",
+    ),
+    (
+        2,
+        [[0, i64::MAX, 0], [0, i64::MAX, 0]],
+        b"\x7f\xff\xff\xff\xff\xff\xff\xff",
+    ),
+];
+
 #[test]
 fn ends_of_values(rt: HostRuntime) -> Result<(), Fail> {
-    let types = ["le:s64/64>>0", "be:u63/64>>0", "le:u8/8>>0"];
-    let rows: [(u64, [[i64; 3]; 2], &[u8]); 4] = [
-        (
-            1,
-            [[i64::MAX, 0, 0], [i64::MAX, 0, 0]],
-            b"\xff\xff\xff\xff\xff\xff\xff\x7f",
-        ),
-        (
-            1,
-            [[i64::MIN, 0, 0], [i64::MIN, 0, 0]],
-            b"\x00\x00\x00\x00\x00\x00\x00\x80",
-        ),
-        (
-            1,
-            [[i64::MIN, 0, 0], [i64::MAX, 0, 0]],
-            b"\x00\x00\x00\x00\x00\x00\x00\x00",
-        ),
-        (
-            2,
-            [[0, i64::MAX, 0], [0, i64::MAX, 0]],
-            b"\x7f\xff\xff\xff\xff\xff\xff\xff",
-        ),
-    ];
-    for (mask, captures, want) in rows {
-        check_mean(&rt, rt.alloc(), types, mask, captures, want)?;
+    for (mask, captures, want) in ENDS {
+        check_mean(&rt, rt.alloc(), WIDE, *mask, *captures, want)?;
     }
     Ok(())
 }
@@ -264,46 +270,48 @@ fn play(rt: &impl Abort, device: &mut Average, steps: &[Step]) -> Result<(), Fai
 }
 
 // A second member joins within a window, and is offered that window's mean too. A full queue loses what it is offered.
+const TWO_MEMBERS: &[Step] = &[
+    Step::Join(5, 0),
+    Step::Add([1, 2, -3], 1000, None),
+    Step::Join(3, 1),
+    Step::Add([4, 2, -4], 2000, Some(2)),
+    Step::Take(1, b"\x20\x00\x02\x00"),
+    Step::Add([8, 0, 0], 3000, None),
+    Step::Add([9, 0, 0], 4000, Some(2)),
+    Step::Queue(0, Some(1), Some(1)),
+    Step::Queue(1, Some(1), Some(0)),
+    Step::Take(0, b"\x20\x00\xff\xfd"),
+    Step::Take(1, b"\x80\x00\x00\x00"),
+    Step::TakeNone(1),
+];
+
 #[test]
 fn two_members(rt: HostRuntime) -> Result<(), Fail> {
-    let steps = [
-        Step::Join(5, 0),
-        Step::Add([1, 2, -3], 1000, None),
-        Step::Join(3, 1),
-        Step::Add([4, 2, -4], 2000, Some(2)),
-        Step::Take(1, b"\x20\x00\x02\x00"),
-        Step::Add([8, 0, 0], 3000, None),
-        Step::Add([9, 0, 0], 4000, Some(2)),
-        Step::Queue(0, Some(1), Some(1)),
-        Step::Queue(1, Some(1), Some(0)),
-        Step::Take(0, b"\x20\x00\xff\xfd"),
-        Step::Take(1, b"\x80\x00\x00\x00"),
-        Step::TakeNone(1),
-    ];
     let mut device = device(rt.alloc(), TYPES, 2, 4)?;
-    play(&rt, &mut device, &steps)
+    play(&rt, &mut device, TWO_MEMBERS)
 }
 
 // When the last member leaves, the window begins anew; a free number is given again.
+const WINDOW_ANEW: &[Step] = &[
+    Step::HasMember(false),
+    Step::Leave(0, false),
+    Step::Join(5, 0),
+    Step::Add([100, 0, 100], 1000, None),
+    Step::Join(5, 1),
+    Step::Leave(0, true),
+    Step::Queue(0, None, None),
+    Step::Add([100, 0, 100], 2000, None),
+    Step::Leave(1, true),
+    Step::Leave(1, false),
+    Step::Join(5, 0),
+    Step::Add([1, 0, -1], 3000, None),
+    Step::Add([1, 0, -1], 4000, None),
+    Step::Add([6, 0, 0], 5000, Some(1)),
+    Step::Take(0, b"\x20\x00\x00\x00"),
+];
+
 #[test]
 fn window_anew(rt: HostRuntime) -> Result<(), Fail> {
-    let steps = [
-        Step::HasMember(false),
-        Step::Leave(0, false),
-        Step::Join(5, 0),
-        Step::Add([100, 0, 100], 1000, None),
-        Step::Join(5, 1),
-        Step::Leave(0, true),
-        Step::Queue(0, None, None),
-        Step::Add([100, 0, 100], 2000, None),
-        Step::Leave(1, true),
-        Step::Leave(1, false),
-        Step::Join(5, 0),
-        Step::Add([1, 0, -1], 3000, None),
-        Step::Add([1, 0, -1], 4000, None),
-        Step::Add([6, 0, 0], 5000, Some(1)),
-        Step::Take(0, b"\x20\x00\x00\x00"),
-    ];
     let mut device = device(rt.alloc(), TYPES, 3, 4)?;
-    play(&rt, &mut device, &steps)
+    play(&rt, &mut device, WINDOW_ANEW)
 }

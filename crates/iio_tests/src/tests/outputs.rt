@@ -132,109 +132,113 @@ const CYCLIC: Step = Step::Start(1, 2, true, Ok(()));
 
 // Scans are given in order, and then comes an underrun. The first scans that fit are taken, and none of a payload that isn't
 // whole scans, even if no scan fits.
+const PLAYBACK: &[&[Step]] = &[
+    &[
+        PLAIN,
+        Step::Write(b"\x01\x00\x02\x00", Wrote::Bytes(4)),
+        Step::Waiting(2),
+        Step::Given(b"\x01\x00"),
+        Step::Given(b"\x02\x00"),
+        Step::Waiting(0),
+        Step::Underrun,
+    ],
+    &[
+        PLAIN,
+        Step::Write(b"", Wrote::Bytes(0)),
+        Step::Write(b"\x01", Wrote::BadSize),
+        Step::Underrun,
+        Step::Write(b"\x01\x00\x02\x00\x03\x00", Wrote::Bytes(4)),
+        Step::Write(b"\x04\x00", Wrote::Full),
+        Step::Write(b"", Wrote::Bytes(0)),
+        Step::Write(b"\x04\x00\x05", Wrote::BadSize),
+        Step::Given(b"\x01\x00"),
+        Step::Write(b"\x06\x00\x07\x00", Wrote::Bytes(2)),
+        Step::Given(b"\x02\x00"),
+        Step::Given(b"\x06\x00"),
+        Step::Underrun,
+    ],
+    &[PLAIN, Step::Waiting(0), Step::Underrun, Step::Underrun],
+];
+
 #[test]
 fn playback(rt: HostRuntime) -> Result<(), Fail> {
-    let rows: [&[Step]; 3] = [
-        &[
-            PLAIN,
-            Step::Write(b"\x01\x00\x02\x00", Wrote::Bytes(4)),
-            Step::Waiting(2),
-            Step::Given(b"\x01\x00"),
-            Step::Given(b"\x02\x00"),
-            Step::Waiting(0),
-            Step::Underrun,
-        ],
-        &[
-            PLAIN,
-            Step::Write(b"", Wrote::Bytes(0)),
-            Step::Write(b"\x01", Wrote::BadSize),
-            Step::Underrun,
-            Step::Write(b"\x01\x00\x02\x00\x03\x00", Wrote::Bytes(4)),
-            Step::Write(b"\x04\x00", Wrote::Full),
-            Step::Write(b"", Wrote::Bytes(0)),
-            Step::Write(b"\x04\x00\x05", Wrote::BadSize),
-            Step::Given(b"\x01\x00"),
-            Step::Write(b"\x06\x00\x07\x00", Wrote::Bytes(2)),
-            Step::Given(b"\x02\x00"),
-            Step::Given(b"\x06\x00"),
-            Step::Underrun,
-        ],
-        &[PLAIN, Step::Waiting(0), Step::Underrun, Step::Underrun],
-    ];
-    play_all(&rt, rt.alloc(), &rows)
+    play_all(&rt, rt.alloc(), PLAYBACK)
 }
 
 // A cycle is given round and round, and written once. It has at least one scan, and at most as many as the capacity.
+const CYCLES: &[&[Step]] = &[
+    &[
+        CYCLIC,
+        Step::Write(b"\x01\x00\x02\x00", Wrote::Bytes(4)),
+        Step::Given(b"\x01\x00"),
+        Step::Given(b"\x02\x00"),
+        Step::Given(b"\x01\x00"),
+        Step::Waiting(2),
+        Step::Write(b"\x03\x00\x04\x00", Wrote::Standing),
+        Step::Given(b"\x02\x00"),
+    ],
+    &[
+        CYCLIC,
+        Step::Underrun,
+        Step::Write(b"", Wrote::BadSize),
+        Step::Write(b"\x01\x00\x02", Wrote::BadSize),
+        Step::Write(b"\x01\x00\x02\x00\x03\x00", Wrote::BadSize),
+        Step::Waiting(0),
+        Step::Write(b"\x08\x00", Wrote::Bytes(2)),
+        Step::Given(b"\x08\x00"),
+        Step::Given(b"\x08\x00"),
+        Step::Write(b"", Wrote::BadSize),
+        Step::Write(b"\x09\x00", Wrote::Standing),
+        Step::Given(b"\x08\x00"),
+    ],
+];
+
 #[test]
 fn cyclic_writers(rt: HostRuntime) -> Result<(), Fail> {
-    let rows: [&[Step]; 2] = [
-        &[
-            CYCLIC,
-            Step::Write(b"\x01\x00\x02\x00", Wrote::Bytes(4)),
-            Step::Given(b"\x01\x00"),
-            Step::Given(b"\x02\x00"),
-            Step::Given(b"\x01\x00"),
-            Step::Waiting(2),
-            Step::Write(b"\x03\x00\x04\x00", Wrote::Standing),
-            Step::Given(b"\x02\x00"),
-        ],
-        &[
-            CYCLIC,
-            Step::Underrun,
-            Step::Write(b"", Wrote::BadSize),
-            Step::Write(b"\x01\x00\x02", Wrote::BadSize),
-            Step::Write(b"\x01\x00\x02\x00\x03\x00", Wrote::BadSize),
-            Step::Waiting(0),
-            Step::Write(b"\x08\x00", Wrote::Bytes(2)),
-            Step::Given(b"\x08\x00"),
-            Step::Given(b"\x08\x00"),
-            Step::Write(b"", Wrote::BadSize),
-            Step::Write(b"\x09\x00", Wrote::Standing),
-            Step::Given(b"\x08\x00"),
-        ],
-    ];
-    play_all(&rt, rt.alloc(), &rows)
+    play_all(&rt, rt.alloc(), CYCLES)
 }
 
 // Element 0 of each channel, in the last scan given that has the channel. Under both channels voltage1 stands at byte 4.
+const LAST: &[&[Step]] = &[&[
+    Step::Last(0, 0),
+    Step::Start(3, 1, false, Ok(())),
+    Step::Write(b"\x01\x02\xff\xff\x80\x0f\x00\x10", Wrote::Bytes(8)),
+    Step::Last(0, 0),
+    Step::Given(b"\x01\x02\xff\xff\x80\x0f\x00\x10"),
+    Step::Underrun,
+    Step::Last(0x201, -2048),
+    Step::Stop,
+    Step::Start(2, 1, true, Ok(())),
+    Step::Write(b"\x7f\xf0\x00\x00", Wrote::Bytes(4)),
+    Step::Given(b"\x7f\xf0\x00\x00"),
+    Step::Last(0x201, 2047),
+]];
+
 #[test]
 fn last_of_each_channel(rt: HostRuntime) -> Result<(), Fail> {
-    let rows: [&[Step]; 1] = [&[
-        Step::Last(0, 0),
-        Step::Start(3, 1, false, Ok(())),
-        Step::Write(b"\x01\x02\xff\xff\x80\x0f\x00\x10", Wrote::Bytes(8)),
-        Step::Last(0, 0),
-        Step::Given(b"\x01\x02\xff\xff\x80\x0f\x00\x10"),
-        Step::Underrun,
-        Step::Last(0x201, -2048),
-        Step::Stop,
-        Step::Start(2, 1, true, Ok(())),
-        Step::Write(b"\x7f\xf0\x00\x00", Wrote::Bytes(4)),
-        Step::Given(b"\x7f\xf0\x00\x00"),
-        Step::Last(0x201, 2047),
-    ]];
-    play_all(&rt, rt.alloc(), &rows)
+    play_all(&rt, rt.alloc(), LAST)
 }
 
 // There is one writer at a time; its end drops what waits, and the next one's underruns are counted from 0 again.
+const ONE_WRITER: &[&[Step]] = &[&[
+    Step::Mask(None),
+    Step::Waiting(0),
+    Step::Stop,
+    Step::Start(1, 65_536, false, Ok(())),
+    Step::Start(2, 1, true, Err(OutFault::Busy)),
+    Step::Mask(Some(Mask { bits: 1 })),
+    Step::Underrun,
+    Step::Write(b"\x01\x00\x02\x00", Wrote::Bytes(4)),
+    Step::Given(b"\x01\x00"),
+    Step::Stop,
+    Step::Mask(None),
+    Step::Waiting(0),
+    Step::Start(2, 1, true, Ok(())),
+    Step::Waiting(0),
+    Step::Last(1, 0),
+]];
+
 #[test]
 fn one_writer_at_a_time(rt: HostRuntime) -> Result<(), Fail> {
-    let rows: [&[Step]; 1] = [&[
-        Step::Mask(None),
-        Step::Waiting(0),
-        Step::Stop,
-        Step::Start(1, 65_536, false, Ok(())),
-        Step::Start(2, 1, true, Err(OutFault::Busy)),
-        Step::Mask(Some(Mask { bits: 1 })),
-        Step::Underrun,
-        Step::Write(b"\x01\x00\x02\x00", Wrote::Bytes(4)),
-        Step::Given(b"\x01\x00"),
-        Step::Stop,
-        Step::Mask(None),
-        Step::Waiting(0),
-        Step::Start(2, 1, true, Ok(())),
-        Step::Waiting(0),
-        Step::Last(1, 0),
-    ]];
-    play_all(&rt, rt.alloc(), &rows)
+    play_all(&rt, rt.alloc(), ONE_WRITER)
 }
