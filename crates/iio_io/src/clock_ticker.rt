@@ -51,10 +51,17 @@ impl<'a, R: Clock> ClockTicker<'a, R> {
         }
     }
 
+    // The nanoseconds since the start, if there is one and the clock can be read.
+    fn elapsed(&self) -> Option<u64> {
+        let elapsed = self.start?.elapsed(&self.clock).ok()?;
+        u64::try_from(elapsed.as_nanos()).ok()
+    }
+
     // Waits for the moment. Returns whether the ticker goes on.
-    fn wait_until(&self, moment: u64, now: u64) -> bool {
-        if moment > now && !self.stop.load(Ordering::SeqCst) {
-            thread::sleep(&self.clock, Duration::from_nanos(moment - now));
+    fn wait_until(&self, moment: i64, now: u64) -> bool {
+        let left = moment.unsigned_abs().saturating_sub(now);
+        if left > 0 && !self.stop.load(Ordering::SeqCst) {
+            thread::sleep(&self.clock, Duration::from_nanos(left));
         }
         !self.stop.load(Ordering::SeqCst)
     }
@@ -71,17 +78,22 @@ impl<'a, R: Clock> Ticker for ClockTicker<'a, R> {
         ensures period { self.new.period ≡ self.old.period }
         ensures kept { IfNone result (self.new ≡ self.old) }
     {
-        let now = self.start?.elapsed(&self.clock).ok()?;
-        let now = u64::try_from(now.as_nanos()).ok()?;
+        let now = self.elapsed()?;
         let tick = next_tick(self.ticks, now, self.period)?;
-        let moment = tick.checked_mul(self.period)?;
-        let answer = i64::try_from(moment).ok()?;
+        let moment = moment_of(tick, self.period)?;
         if !self.wait_until(moment, now) {
             return None;
         }
         self.ticks = tick;
-        Some(answer)
+        Some(moment)
     }
+}
+
+// The moment of a tick, if it isn't past 2^63 - 1.
+fn moment_of(tick: u64, period: u64) -> Option<i64>
+    ensures { IfSome result (λ t. t ≡ pos (tick * period)) }
+{
+    i64::try_from(tick.checked_mul(period)?).ok()
 }
 
 // The number of the tick that comes after `ticks` others: the next one, or the last that has come by `now` if that is later.
