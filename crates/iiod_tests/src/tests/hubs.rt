@@ -17,7 +17,7 @@ use iio_mask::Mask;
 use iio_text::Errno;
 use iio_trigger::Polled;
 use iiod_bank::{Bank, OwnBank};
-use iiod_hub::{Hub, HubLink, HubSeat, SessionEnd};
+use iiod_hub::{Hub, HubLink, HubSeat, ReadEnd, SessionEnd};
 use iiod_session::{Going, Manner, Mem, No, Session};
 use std::alloc::Global;
 use std::process::Abort;
@@ -148,6 +148,13 @@ fn hear_between(
     Ok((ticked, polled, handled, ended))
 }
 
+fn check_between(rt: &impl Abort, between: Between) {
+    let (ticked, polled, handled, ended) = between;
+    assert!(rt; ticked && !ended);
+    assert_eq!(rt; polled, Polled::Missed(1));
+    assert_eq!(rt; handled, Some(Handled::Captured(1)));
+}
+
 // A bank without locks: a device is opened, a tick polls its trigger, a second poll is missed, and the entry is handled.
 #[test]
 fn a_bank_is_opened_ticked_polled_and_handled(rt: HostRuntime) -> Result<(), Fail> {
@@ -157,10 +164,7 @@ fn a_bank_is_opened_ticked_polled_and_handled(rt: HostRuntime) -> Result<(), Fai
     let mut session = Session::new(alloc, 1, Manner::Server)?;
     let between = hear_between(alloc, &mut session, &mut link, &mut said);
     session.end(&mut link);
-    let (ticked, polled, handled, ended) = between?;
-    assert!(rt; ticked && !ended);
-    assert_eq!(rt; polled, Polled::Missed(1));
-    assert_eq!(rt; handled, Some(Handled::Captured(1)));
+    check_between(&rt, between?);
     assert_eq!(rt;
         said.as_slice(),
         b"0\n16\n00000009\n\x10\0\0\0\0\0\0\0\xe8\x03\0\0\0\0\0\0".as_slice()
@@ -168,14 +172,16 @@ fn a_bank_is_opened_ticked_polled_and_handled(rt: HostRuntime) -> Result<(), Fai
     Ok(())
 }
 
-// Returns how a session stands after a READBUF that waits, whether the device was plugged when it is unplugged then and once
-// more, and how the session stands after another READBUF.
+// How a session stands after a READBUF that waits, whether the device was plugged when it is unplugged then and once more, and
+// how the session stands after another READBUF.
+type Unplugged = (Going, bool, bool, Going);
+
 fn hear_unplugged(
     alloc: Global,
     session: &mut Session<HubSeat>,
     link: &mut HubLink<OwnBank>,
     said: &mut Vec<u8>,
-) -> Result<(Going, bool, bool, Going), Mem>
+) -> Result<Unplugged, Mem>
     requires client { IsClient seen_of (⟦<OwnBank as Bank>⟧.front link.old.bank) session.old.client }
     requires device { 0 < length (⟦<OwnBank as Bank>⟧.front link.old.bank).devices }
     ensures { IsClient seen_of (⟦<OwnBank as Bank>⟧.front link.new.bank) session.new.client }
@@ -188,6 +194,12 @@ fn hear_unplugged(
     Ok((waits, unplugged, again, told))
 }
 
+fn check_unplugged(rt: &impl Abort, heard: Unplugged) {
+    let (waits, unplugged, again, told) = heard;
+    assert_eq!(rt; (waits, told), (Going::Waits(0), Going::On));
+    assert!(rt; unplugged && !again);
+}
+
 // A device that is unplugged while a READBUF waits: that READBUF and each later one is answered by -19, and CLOSE is no error.
 #[test]
 fn unplugged_under_a_reader(rt: HostRuntime) -> Result<(), Fail> {
@@ -197,12 +209,13 @@ fn unplugged_under_a_reader(rt: HostRuntime) -> Result<(), Fail> {
     let mut session = Session::new(alloc, 1, Manner::Server)?;
     let heard = hear_unplugged(alloc, &mut session, &mut link, &mut said);
     session.end(&mut link);
-    let (waits, unplugged, again, told) = heard?;
-    assert_eq!(rt; (waits, told), (Going::Waits(0), Going::On));
-    assert!(rt; unplugged && !again);
+    check_unplugged(&rt, heard?);
     assert_eq!(rt; said.as_slice(), b"0\n-19\n-19\n0\n".as_slice());
     Ok(())
 }
+
+// How many scans were discarded, what the next handling did, how many scans were read then, and how the seat's queue ended.
+type Exchanged = (u64, Option<Handled>, Result<u32, ReadEnd>, Ended);
 
 // Opens a seat, captures three times, exchanges its mask, captures once more and reads.
 fn exchange_mask<R: Abort + Wait>(
@@ -210,7 +223,7 @@ fn exchange_mask<R: Abort + Wait>(
     alloc: Global,
     hub: &Hub,
     bytes: &mut Vec<u8>,
-) -> Result<(), Fail>
+) -> Result<Exchanged, Fail>
     requires { length bytes.old.items + 2 ≤ vec_capacity bytes.old }
 {
     assert!(rt; hub.front.count() > 0);
@@ -234,10 +247,14 @@ fn exchange_mask<R: Abort + Wait>(
     let handled = hub.handle(rt, alloc, 0, 0);
     let read = hub.read(&mut seat, 1, bytes);
     let ended = hub.close(rt, alloc, seat);
+    Ok((discarded, handled, read, ended))
+}
+
+fn check_exchanged(rt: &impl Abort, exchanged: Exchanged) {
+    let (discarded, handled, read, ended) = exchanged;
     assert_eq!(rt; discarded, 2);
     assert_eq!(rt; handled, Some(Handled::Captured(1)));
     assert_eq!(rt; (read, ended), (Ok(1), Ended::Whole(1)));
-    Ok(())
 }
 
 // A member of a running hub changes its mask: the scans that waited are counted and gone, and the next scan is one of the new
@@ -246,7 +263,7 @@ fn exchange_mask<R: Abort + Wait>(
 fn a_member_of_a_hub_exchanges_its_mask(rt: HostRuntime) -> Result<(), Fail> {
     let hub = hub_of(rt.alloc())?;
     let mut bytes = Vec::with_capacity(rt.alloc(), 2)?;
-    exchange_mask(&rt, rt.alloc(), &hub, &mut bytes)?;
+    check_exchanged(&rt, exchange_mask(&rt, rt.alloc(), &hub, &mut bytes)?);
     assert_eq!(rt; bytes.as_slice(), b"\x20\0".as_slice());
     Ok(())
 }

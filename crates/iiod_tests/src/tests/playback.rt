@@ -10,6 +10,7 @@ use iio_io::{ListDoor, OpenGate};
 use iiod_hub::Hub;
 use iiod_server::ServeEnd;
 use std::alloc::Global;
+use std::process::Abort;
 use std::sync::atomic::{AtomicBool, AtomicU32, Ordering};
 use std::test::Fail;
 use std::time::Clock;
@@ -70,6 +71,11 @@ where
     Ok(ListDoor::new(links, Vec::new(alloc)))
 }
 
+fn check_played(rt: &impl Abort, end: ServeEnd, right: u32) {
+    assert_eq!(rt; end, ServeEnd::DoorEnd);
+    assert_eq!(rt; right, SCANS);
+}
+
 // Each scan is of the row at its timestamp, and the timestamps are whole milliseconds that rise.
 #[test]
 fn rows_play_back_in_real_time(rt: HostRuntime) -> Result<(), Fail> {
@@ -86,7 +92,6 @@ fn rows_play_back_in_real_time(rt: HostRuntime) -> Result<(), Fail> {
         ticker: None,
     };
     let end = serve_timed(&rt, alloc, &hub, &mut door, ticker, &OpenGate)?;
-    assert_eq!(rt; end, ServeEnd::DoorEnd);
-    assert_eq!(rt; right.load(Ordering::SeqCst), SCANS);
+    check_played(&rt, end, right.load(Ordering::SeqCst));
     Ok(())
 }

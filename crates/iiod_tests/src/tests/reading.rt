@@ -9,6 +9,7 @@ use iiod_hub::{Hub, SessionEnd};
 use iiod_readdev::{ReadStatus, readdev};
 use std::alloc::Global;
 use std::net::SocketAddr;
+use std::process::Abort;
 use std::sync::Wait;
 use std::sync::atomic::AtomicBool;
 use std::test::Fail;
@@ -113,17 +114,31 @@ fn client_of(rt: HostRuntime, alloc: Global, address: SocketAddr) -> Result<Clie
     })
 }
 
+// Opens a door at a free port of the loopback interface.
+fn open_door(
+    rt: HostRuntime,
+    stop: &AtomicBool,
+) -> Result<(TcpDoor<'_, HostRuntime>, SocketAddr), Fail> {
+    let mut door = TcpDoor::new(rt, stop);
+    door.listen("127.0.0.1:0")?;
+    let Some(address) = door.address() else {
+        return Err(Fail::from("no address"));
+    };
+    Ok((door, address))
+}
+
+fn check_ends(rt: &impl Abort, status: ReadStatus, end: Option<SessionEnd>) {
+    assert_eq!(rt; status, ReadStatus::Done);
+    assert_eq!(rt; end, Some(SessionEnd::Ended));
+}
+
 // The command that reads devices reads the device of a usual session over the loopback interface.
 #[test]
 fn a_client_reads_over_the_loopback(rt: HostRuntime) -> Result<(), Fail> {
     let alloc = rt.alloc();
     let hub = hub_of(alloc)?;
     let stop = AtomicBool::new(false);
-    let mut door = TcpDoor::new(rt, &stop);
-    door.listen("127.0.0.1:0")?;
-    let Some(address) = door.address() else {
-        return Err(Fail::from("no address"));
-    };
+    let (door, address) = open_door(rt, &stop)?;
     let mut client = client_of(rt, alloc, address)?;
     let mut server = Server {
         rt: &rt,
@@ -136,8 +151,7 @@ fn a_client_reads_over_the_loopback(rt: HostRuntime) -> Result<(), Fail> {
         &mut || read_at(&mut client),
         &mut || serve_next(&mut server),
     );
-    assert_eq!(rt; status, ReadStatus::Done);
-    assert_eq!(rt; end, Some(SessionEnd::Ended));
+    check_ends(&rt, status, end);
     assert_eq!(rt; client.output.written(), PRINTED);
     Ok(())
 }

@@ -183,10 +183,10 @@ fn channel(id: &str, ty: &str) -> Result<Channel, Fail> {
 
 // voltage0, voltage1, accel_x and a timestamp.
 fn adc(alloc: Global) -> Result<Shape, Fail> {
-    let mut channels = Vec::new(alloc);
-    channels.push(channel("voltage0", "le:u12/16>>4")?)?;
-    channels.push(channel("voltage1", "le:u12/16>>4")?)?;
-    channels.push(channel("accel_x", "be:s16/16>>0")?)?;
+    let first = channel("voltage0", "le:u12/16>>4")?;
+    let second = channel("voltage1", "le:u12/16>>4")?;
+    let third = channel("accel_x", "be:s16/16>>0")?;
+    let channels = vec![in alloc; first, second, third]?;
     let shape = Shape::new(channels, Some(Endian::Little), Vec::new(alloc));
     Ok(shape.ok_or("no shape")?)
 }
@@ -213,12 +213,22 @@ fn ask<'a>(rt: &impl Abort, shape: &'a Shape, mask: &str, scans: u32) -> Result<
     requires { 1 ≤ scans }
     ensures { IfOk result (λ ask. IsAsk (wanted_by ask)) }
 {
-    assert_eq!(rt; shape.count(), 4);
-    assert_eq!(rt; shape.inputs(), 3);
+    assert!(rt; shape.count() == 4 && shape.inputs() == 3);
     let mask = Mask::read(mask.as_bytes(), 4).ok_or("no mask")?;
-    assert!(rt; mask.contains(0));
-    assert!(rt; mask.bits < 16);
+    assert!(rt; mask.contains(0) && mask.bits < 16);
     Ok(ask_under(shape, mask, scans))
+}
+
+// Makes a source that gives these bytes in pieces, and fails these reads.
+fn source(alloc: Global, bytes: &[u8], piece: usize, fails: &[u64]) -> Result<MemSource, Fail>
+    requires { 1 ≤ piece }
+{
+    Ok(MemSource::new(bytes.to_vec(alloc)?, piece, fails.to_vec(alloc)?))
+}
+
+// Makes a sink with ample room, which fails these writes.
+fn sink(alloc: Global, fails: &[u64]) -> Result<MemSink, Fail> {
+    Ok(MemSink::new(alloc, 65_536, fails.to_vec(alloc)?)?)
 }
 
 // Makes a link that gives these bytes in pieces, and fails some of its calls.
@@ -231,12 +241,11 @@ fn link(
 ) -> Result<MemLink, Fail>
     requires { 1 ≤ piece }
 {
-    let source = MemSource::new(bytes.to_vec(alloc)?, piece, receives.to_vec(alloc)?);
-    Ok(MemLink::new(source, MemSink::new(alloc, 65_536, sends.to_vec(alloc)?)?))
+    let source = source(alloc, bytes, piece, receives)?;
+    Ok(MemLink::new(source, sink(alloc, sends)?))
 }
 
 // A reading: the mask, the number of wanted scans, what the link gives, what is sent and printed, and the end.
-#[derive(Clone, Copy)]
 struct Row {
     mask: &'static str,
     scans: u32,
@@ -246,23 +255,28 @@ struct Row {
     end: ClientEnd,
 }
 
+// What the link gives in the first reading, what is sent, and what is printed.
+const GIVEN: &[u8] = b"0\n4\n00000005\n\x10\x00\xff\xfd0\n";
+
+const SENT: &[u8] = b"OPEN adc0 1 00000005\nREADBUF adc0 4\nCLOSE adc0\nEXIT\n";
+
+const PRINTED: &[u8] = b"1000fffd voltage0=1 accel_x=-3\n";
+
 const OPEN_SENT: &[u8] = b"OPEN adc0 1 00000005\n";
 
 const READ_SENT: &[u8] = b"OPEN adc0 1 00000005\nREADBUF adc0 4\n";
 
 const READ_TWO_SENT: &[u8] = b"OPEN adc0 1 00000005\nREADBUF adc0 8\n";
 
-const FIRST: Row = Row {
-    mask: "00000005",
-    scans: 1,
-    given: b"0\n4\n00000005\n\x10\x00\xff\xfd0\n",
-    sent: b"OPEN adc0 1 00000005\nREADBUF adc0 4\nCLOSE adc0\nEXIT\n",
-    printed: b"1000fffd voltage0=1 accel_x=-3\n",
-    end: ClientEnd::Done,
-};
-
 const ROWS: &[Row] = &[
-    FIRST,
+    Row {
+        mask: "00000005",
+        scans: 1,
+        given: GIVEN,
+        sent: SENT,
+        printed: PRINTED,
+        end: ClientEnd::Done,
+    },
     // Bytes after the last answer aren't looked at.
     Row {
         mask: "00000005",
@@ -384,23 +398,34 @@ fn is_reading(alloc: Global, ask: &Ask<'_>, row: &Row, piece: usize) -> Result<b
     requires piece { 1 ≤ piece }
 {
     let mut link = link(alloc, row.given, piece, &[], &[])?;
-    let mut output = MemSink::new(alloc, 65_536, Vec::new(alloc))?;
+    let mut output = sink(alloc, &[])?;
     let end = end_of(alloc, ask, &mut link, &mut output);
     Ok(end == row.end && link.sent() == row.sent && output.written() == row.printed)
+}
+
+// Checks a row's reading over links that give their bytes in pieces of any size.
+fn check_reading(rt: &impl Abort, alloc: Global, shape: &Shape, row: &Row) -> Result<(), Fail> {
+    assert!(rt; 1 <= row.scans);
+    let ask = ask(rt, shape, row.mask, row.scans)?;
+    for piece in 1..row.given.len() + 2 {
+        let right = is_reading(alloc, &ask, row, piece)?;
+        assert!(rt; right, "of {:?} by {piece}", row.given);
+    }
+    Ok(())
 }
 
 #[test]
 fn reads_in_any_pieces(rt: HostRuntime) -> Result<(), Fail> {
     let shape = adc(rt.alloc())?;
     for row in ROWS {
-        assert!(rt; 1 <= row.scans);
-        let ask = ask(&rt, &shape, row.mask, row.scans)?;
-        for piece in 1..row.given.len() + 2 {
-            let right = is_reading(rt.alloc(), &ask, row, piece)?;
-            assert!(rt; right, "of {:?} by {piece}", row.given);
-        }
+        check_reading(&rt, rt.alloc(), &shape, row)?;
     }
     Ok(())
+}
+
+// Whether a front part of the first row's bytes was sent and printed.
+fn is_front(link: &MemLink, output: &MemSink) -> bool {
+    SENT.starts_with(link.sent()) && PRINTED.starts_with(output.written())
 }
 
 // Returns how the reading of the first row ends if these calls fail,
@@ -414,11 +439,10 @@ fn faulty_end(
 ) -> Result<Option<ClientEnd>, Fail>
     requires { IsAsk (wanted_by ask.now) }
 {
-    let row = FIRST;
-    let mut link = link(alloc, row.given, 1, receives, sends)?;
-    let mut output = MemSink::new(alloc, 65_536, writes.to_vec(alloc)?)?;
+    let mut link = link(alloc, GIVEN, 1, receives, sends)?;
+    let mut output = sink(alloc, writes)?;
     let end = end_of(alloc, ask, &mut link, &mut output);
-    let front = row.sent.starts_with(link.sent()) && row.printed.starts_with(output.written());
+    let front = is_front(&link, &output);
     Ok(if front { Some(end) } else { None })
 }
 
@@ -426,28 +450,32 @@ fn faulty_end(
 fn check_faults(
     rt: &impl Abort,
     alloc: Global,
+    shape: &Shape,
     receives: &[u64],
     sends: &[u64],
     writes: &[u64],
     want: ClientEnd,
 ) -> Result<(), Fail> {
-    let shape = adc(alloc)?;
-    let ask = ask(rt, &shape, "00000005", 1)?;
+    let ask = ask(rt, shape, "00000005", 1)?;
     let end = faulty_end(alloc, &ask, receives, sends, writes)?;
     assert_eq!(rt; end, Some(want), "with {receives:?}, {sends:?}, {writes:?}");
     Ok(())
 }
 
-#[test]
-fn each_call_fails_in_turn(rt: HostRuntime) -> Result<(), Fail> {
-    let alloc = rt.alloc();
-    // 19 bytes come, one at a time, and 4 lines are sent.
+// Reads the first row, of which 19 bytes come, one at a time, and 4 lines are sent, while each call fails in turn.
+fn fail_each_call(rt: &impl Abort, alloc: Global, shape: &Shape) -> Result<(), Fail> {
     for call in 1..20 {
-        check_faults(&rt, alloc, &[call], &[], &[], ClientEnd::LinkFault)?;
+        check_faults(rt, alloc, shape, &[call], &[], &[], ClientEnd::LinkFault)?;
     }
     for call in 1..5 {
-        check_faults(&rt, alloc, &[], &[call], &[], ClientEnd::LinkFault)?;
+        check_faults(rt, alloc, shape, &[], &[call], &[], ClientEnd::LinkFault)?;
     }
-    check_faults(&rt, alloc, &[], &[], &[1], ClientEnd::WriteFault)?;
-    check_faults(&rt, alloc, &[20], &[5], &[2], ClientEnd::Done)
+    check_faults(rt, alloc, shape, &[], &[], &[1], ClientEnd::WriteFault)?;
+    check_faults(rt, alloc, shape, &[20], &[5], &[2], ClientEnd::Done)
+}
+
+#[test]
+fn each_call_fails_in_turn(rt: HostRuntime) -> Result<(), Fail> {
+    let shape = adc(rt.alloc())?;
+    fail_each_call(&rt, rt.alloc(), &shape)
 }
