@@ -10,7 +10,7 @@ use Scope::{Buffer, Channel, Device};
 use iio_text::{Errno, Fixed, Form, is_word, read_fixed};
 
 /// What an attribute belongs to.
-#[derive(Clone, Copy, Debug, PartialEq, Eq)]
+#[derive(Clone, Copy, Debug)]
 pub enum Scope {
     /// The device.
     Device,
@@ -58,7 +58,7 @@ pub enum Attr {
 }
 
 /// What may be written to an attribute.
-#[derive(Clone, Copy, Debug, PartialEq, Eq)]
+#[derive(Clone, Copy, PartialEq, Eq)]
 enum Access {
     /// Nothing.
     ReadOnly,

@@ -15,7 +15,7 @@ use std::fmt;
 pub use sum::Sum;
 
 /// Lack of memory. It is the one result that no argument explains: no clause says when it is returned.
-#[derive(Clone, Copy, Debug, PartialEq, Eq, Hash)]
+#[derive(Clone, Copy, Debug)]
 pub struct Mem;
 
 impl fmt::Display for Mem {

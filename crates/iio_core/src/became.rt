@@ -3,7 +3,7 @@
 use iio_device::Handled;
 
 /// What became of a device's entry.
-#[derive(Clone, Copy, Debug, PartialEq, Eq, Hash)]
+#[derive(Clone, Copy, Debug, PartialEq, Eq)]
 pub enum Became {
     /// The entry was an input device's.
     Asked(Handled),
@@ -12,7 +12,7 @@ pub enum Became {
 }
 
 /// What became of an output device's entry.
-#[derive(Clone, Copy, Debug, PartialEq, Eq, Hash)]
+#[derive(Clone, Copy, Debug, PartialEq, Eq)]
 pub enum Gave {
     /// The device was given a scan.
     Given,

@@ -14,7 +14,7 @@ use iio_sensor::{Fault, Sensor};
 use iio_trigger::Due;
 
 /// What became of a trigger's entry.
-#[derive(Clone, Copy, Debug, PartialEq, Eq, Hash)]
+#[derive(Clone, Copy, Debug, PartialEq, Eq)]
 pub enum Handled {
     /// The sensor was asked, and this number of members were offered their scans.
     Captured(u32),
@@ -25,7 +25,7 @@ pub enum Handled {
 }
 
 /// Why a sample isn't given.
-#[derive(Clone, Copy, Debug, PartialEq, Eq, Hash)]
+#[derive(Clone, Copy, Debug)]
 pub enum RawFault {
     /// The device is unplugged.
     Gone,
@@ -36,7 +36,7 @@ pub enum RawFault {
 }
 
 /// What became of a look at the thresholds.
-#[derive(Clone, Copy, Debug, PartialEq, Eq, Hash)]
+#[derive(Clone, Copy, Debug)]
 pub enum Sensed {
     /// This number of events fired.
     Fired(u32),

@@ -3,7 +3,7 @@
 use iio_mask::Mask;
 
 /// A member of a device. A device never uses a number twice.
-#[derive(Clone, Copy, Debug, PartialEq, Eq, Hash)]
+#[derive(Clone, Copy, Debug, PartialEq, Eq)]
 pub struct Member {
     pub number: u64,
 }

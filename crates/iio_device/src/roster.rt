@@ -59,7 +59,7 @@ pub struct Roster<Q: Tail> {
 }
 
 /// Why a join was refused.
-#[derive(Clone, Copy, Debug, PartialEq, Eq, Hash)]
+#[derive(Clone, Copy, Debug)]
 pub enum JoinFault {
     /// The device is unplugged.
     Gone,
@@ -82,7 +82,7 @@ pub struct JoinRefused<Q> {
 }
 
 /// Why a member can't have another mask.
-#[derive(Clone, Copy, Debug, PartialEq, Eq, Hash)]
+#[derive(Clone, Copy, Debug, PartialEq, Eq)]
 pub enum RemaskFault {
     /// The device is unplugged.
     Gone,

@@ -12,7 +12,7 @@ use iio_sensor::MAX_BIASES;
 use std::alloc::Global;
 
 /// The values of those attributes of a channel that are only kept.
-#[derive(Clone, Copy, Debug, PartialEq, Eq)]
+#[derive(Clone, Copy, Debug)]
 pub struct ChannelValues {
     pub scale: Fixed,
     pub offset: Fixed,

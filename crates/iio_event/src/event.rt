@@ -6,7 +6,7 @@ ghost use Rattle.iio_event.specs.Code.{kind_number, modifier_of, channel_number,
 use iio_layout::{Kind, Suffix};
 
 /// The edge of a threshold that a value crosses.
-#[derive(Clone, Copy, Debug, PartialEq, Eq)]
+#[derive(Clone, Copy, Debug)]
 pub enum Edge {
     /// From at or below the threshold to above it.
     Rising,

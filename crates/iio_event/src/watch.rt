@@ -8,7 +8,7 @@ use crate::event::Edge;
 use iio_layout::{Channel, Kind, Suffix};
 
 /// One edge of a channel.
-#[derive(Clone, Copy, Debug, PartialEq, Eq)]
+#[derive(Clone, Copy, Debug)]
 pub struct Watch {
     /// Whether its events fire.
     pub enabled: bool,
@@ -19,7 +19,7 @@ pub struct Watch {
 }
 
 /// A channel and its two edges.
-#[derive(Clone, Copy, Debug, PartialEq, Eq)]
+#[derive(Clone, Copy, Debug)]
 pub struct Watched {
     pub kind: Kind,
     pub suffix: Suffix,

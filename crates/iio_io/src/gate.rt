@@ -1,7 +1,7 @@
 //! What a test can hold a connection by.
 
 /// A point that a connection passes, with the connection's number.
-#[derive(Clone, Copy, Debug, PartialEq, Eq)]
+#[derive(Clone, Copy, Debug)]
 pub enum Point {
     /// Bytes of the connection were received.
     Heard(u32),
@@ -16,7 +16,7 @@ pub trait Gate {
 }
 
 /// A gate that never holds.
-#[derive(Clone, Copy, Debug, PartialEq, Eq)]
+#[derive(Clone, Copy, Debug)]
 pub struct OpenGate;
 
 impl Gate for OpenGate {

@@ -8,7 +8,7 @@ use std::error::Error;
 use std::fmt;
 
 /// A call of the outside that failed: a read took no byte, a write added none, and a door gave no connection away.
-#[derive(Clone, Copy, Debug, PartialEq, Eq, Hash)]
+#[derive(Clone, Copy, Debug, PartialEq, Eq)]
 pub struct Failed;
 
 impl fmt::Display for Failed {

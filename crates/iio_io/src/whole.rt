@@ -14,7 +14,7 @@ use std::fmt;
 const PIECE: usize = 65_536;
 
 /// Why `read_whole` returned no text.
-#[derive(Clone, Copy, Debug, PartialEq, Eq, Hash)]
+#[derive(Clone, Copy, Debug, PartialEq, Eq)]
 pub enum ReadEnd {
     /// A read failed.
     Failed,

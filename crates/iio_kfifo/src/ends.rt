@@ -21,7 +21,7 @@ use std::alloc::Global;
 use std::sync::Arc;
 
 /// The counts of a ring whose ends are in one thread again.
-#[derive(Clone, Copy, Debug, PartialEq, Eq)]
+#[derive(Clone, Copy, Debug)]
 pub struct Receipt {
     /// How many scans were received.
     pub received: u64,

@@ -7,7 +7,7 @@ ghost use Rattle.iio_kinds.specs.Tally.{bytes_by, devices_tally, overruns_by, sc
 use crate::any_device::AnyDevice;
 
 /// What was counted in a run. The first three stay at 2^64 - 1 once they get there.
-#[derive(Clone, Copy, Debug, PartialEq, Eq, Hash)]
+#[derive(Clone, Copy, Debug)]
 pub struct Tally {
     /// The captures of all devices.
     pub captures: u64,

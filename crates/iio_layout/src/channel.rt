@@ -38,7 +38,7 @@ pub enum Direction {
 }
 
 /// A channel: what it measures, and how its values stand in a scan.
-#[derive(Clone, Copy, Debug, PartialEq, Eq)]
+#[derive(Clone, Copy, Debug)]
 pub struct Channel {
     pub kind: Kind,
     pub suffix: Suffix,

@@ -10,7 +10,7 @@ pub use iio_base::Mem;
 use std::alloc::Global;
 
 /// A set of channels: channel c is in it exactly if bit c is 1.
-#[derive(Clone, Copy, Debug, PartialEq, Eq, Hash)]
+#[derive(Clone, Copy, Debug, PartialEq, Eq)]
 pub struct Mask {
     pub bits: u64,
 }

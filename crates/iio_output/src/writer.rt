@@ -13,7 +13,7 @@ use std::alloc::Global;
 use std::marker::Model;
 
 /// What became of a payload.
-#[derive(Clone, Copy, Debug, PartialEq, Eq, Hash)]
+#[derive(Clone, Copy, Debug, PartialEq, Eq)]
 pub enum Wrote {
     /// This number of its bytes is taken: the first scans that fit.
     Bytes(u32),
@@ -26,7 +26,7 @@ pub enum Wrote {
 }
 
 /// What became of an entry of the device's trigger.
-#[derive(Clone, Copy, Debug, PartialEq, Eq, Hash)]
+#[derive(Clone, Copy, Debug, PartialEq, Eq)]
 pub enum Next {
     /// The device was given a scan.
     Given,

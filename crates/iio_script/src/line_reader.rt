@@ -18,7 +18,7 @@ use std::simd::prelude::*;
 pub const MAX_PIECE_BYTES: usize = 65_536;
 
 /// What comes next in an input.
-#[derive(Clone, Copy, Debug, PartialEq, Eq)]
+#[derive(Clone, Copy)]
 pub(crate) enum Found {
     /// A line.
     Line,

@@ -8,7 +8,7 @@ ghost use Rattle.iio_script.specs.Step.{form_of};
 use iio_text::is_word;
 
 /// A word that begins a step; none of them is a connection's name in a feed.
-#[derive(Clone, Copy, Debug, PartialEq, Eq)]
+#[derive(Clone, Copy)]
 pub(crate) enum StepWord {
     Fire,
     Poll,

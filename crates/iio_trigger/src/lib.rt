@@ -22,7 +22,7 @@ use std::fmt;
 use std::marker::Model;
 
 /// All places are taken by other devices.
-#[derive(Clone, Copy, Debug, PartialEq, Eq, Hash)]
+#[derive(Clone, Copy, Debug, PartialEq, Eq)]
 pub struct NoPlace;
 
 impl fmt::Display for NoPlace {
@@ -34,7 +34,7 @@ impl fmt::Display for NoPlace {
 impl Error for NoPlace {}
 
 /// What became of a poll.
-#[derive(Clone, Copy, Debug, PartialEq, Eq, Hash)]
+#[derive(Clone, Copy, Debug, PartialEq, Eq)]
 pub enum Polled {
     /// The poll made this number of entries.
     Accepted(u32),

@@ -30,7 +30,7 @@ pub enum State {
 }
 
 /// The place in an answer that has been reached.
-#[derive(Clone, Copy, Debug, PartialEq, Eq)]
+#[derive(Clone, Copy, Debug)]
 pub enum Place {
     /// Within a line that stands where a length line is due.
     Length,

@@ -41,7 +41,7 @@ impl<S> OpenSeat<S> {
 }
 
 /// The buffers count for later OPENs of a device.
-#[derive(Clone, Copy, Debug, PartialEq, Eq)]
+#[derive(Clone, Copy, Debug)]
 pub struct BuffersCount {
     pub(crate) dev: u32,
     pub(crate) count: u32,

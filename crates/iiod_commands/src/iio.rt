@@ -87,7 +87,7 @@ pub fn holder_no(_none: NotHolder) -> No
 }
 
 /// The outcome of a take.
-#[derive(Clone, Copy, Debug, PartialEq, Eq)]
+#[derive(Clone, Copy, Debug)]
 pub enum Took {
     /// A scan was taken.
     Scan,
@@ -98,7 +98,7 @@ pub enum Took {
 }
 
 /// The counts of a queue.
-#[derive(Clone, Copy, Debug, PartialEq, Eq)]
+#[derive(Clone, Copy, Debug)]
 pub struct Counts {
     /// The number of scans that wait.
     pub waiting: u64,

@@ -14,7 +14,7 @@ use crate::iio::Iio;
 use iio_text::Errno;
 
 /// The kind of a device.
-#[derive(Clone, Copy, Debug, PartialEq, Eq)]
+#[derive(Clone, Copy, PartialEq, Eq)]
 pub(crate) enum Kind {
     /// Its sensor is asked.
     Input,

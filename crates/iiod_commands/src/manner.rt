@@ -1,7 +1,7 @@
 //! How a connection is served.
 
 /// What a session does if it can't answer at once.
-#[derive(Clone, Copy, Debug, PartialEq, Eq)]
+#[derive(Clone, Copy, Debug)]
 pub enum Manner {
     /// Each command is answered; a READBUF that finds nothing is answered by `EAGAIN`. Running out of memory ends the session.
     Script,
@@ -10,7 +10,7 @@ pub enum Manner {
 }
 
 /// The outcome of a command.
-#[derive(Clone, Copy, Debug, PartialEq, Eq)]
+#[derive(Clone, Copy, Debug)]
 pub enum Progress {
     /// It was answered.
     Done,

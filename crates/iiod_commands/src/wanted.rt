@@ -19,7 +19,7 @@ use iio_mask::Mask;
 use iio_text::Errno;
 
 /// A mask, the number of scans that the queue is to hold, and the bytes of one scan.
-#[derive(Clone, Copy, Debug, PartialEq, Eq)]
+#[derive(Clone, Copy)]
 pub(crate) struct Wanted {
     pub(crate) mask: Mask,
     pub(crate) capacity: u32,

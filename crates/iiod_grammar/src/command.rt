@@ -1,7 +1,7 @@
 //! The commands of a connection.
 
 /// The reason why a line is not a command.
-#[derive(Clone, Copy, Debug, PartialEq, Eq, Hash)]
+#[derive(Clone, Copy, Debug)]
 pub enum Refused {
     /// The line has no word.
     Empty,
@@ -14,7 +14,7 @@ pub enum Refused {
 }
 
 /// Where an attribute stands.
-#[derive(Clone, Copy, Debug, PartialEq, Eq)]
+#[derive(Clone, Copy, Debug)]
 pub enum Place<'a> {
     /// At the device itself.
     Device,
@@ -29,7 +29,7 @@ pub enum Place<'a> {
 }
 
 /// A command of a connection. Its words are slices of the line.
-#[derive(Clone, Copy, Debug, PartialEq, Eq)]
+#[derive(Clone, Copy, Debug)]
 pub enum Command<'a> {
     /// `HELP`: the line that names the profile.
     Help,

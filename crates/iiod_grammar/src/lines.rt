@@ -20,7 +20,7 @@ pub const MAX_LINE: usize = 1024;
 pub const MAX_PAYLOAD: u32 = 65_536;
 
 /// What is ready after the bytes that were fed.
-#[derive(Clone, Copy, Debug, PartialEq, Eq)]
+#[derive(Clone, Copy, Debug)]
 pub enum Ready {
     /// No piece is whole yet; all bytes were taken.
     More,

@@ -7,7 +7,7 @@ use iiod_commands::Iio;
 use iiod_grammar::{Command, MAX_PAYLOAD};
 
 /// An item of a stream, as it is told to a [`Watch`].
-#[derive(Clone, Copy, Debug, PartialEq, Eq)]
+#[derive(Clone, Copy, Debug)]
 pub enum Seen<'a> {
     /// A command; also EXIT, a WRITE or WRITEBUF once its payload is whole, and one whose payload is too large.
     Command(Command<'a>),
@@ -36,7 +36,7 @@ pub trait Watch<I: Iio> {
 }
 
 /// A watch that ignores every item.
-#[derive(Clone, Copy, Debug, PartialEq, Eq)]
+#[derive(Clone, Copy, Debug)]
 pub struct Unwatched;
 
 impl<I: Iio> Watch<I> for Unwatched {
