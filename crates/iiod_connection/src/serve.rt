@@ -96,6 +96,33 @@ fn wait_for<B: Bells>(iio: &B, dev: u32, look: Option<Look>)
     }
 }
 
+// Waits for the bell of the device, and tries the READBUF that waits there again. The bell is looked at before the try, so that
+// a scan that comes between the try and the next wait isn't slept through.
+fn try_again<L: Link, B: Bells>(
+    alloc: Global,
+    session: &mut Session<B::Seat>,
+    iio: &mut B,
+    link: &mut L,
+    carried: &mut Carried,
+    dev: u32,
+) -> Result<Going, SessionEnd>
+    requires manner { session.old.manner ≡ Server }
+    requires client { IsClient B.seen (B.front (B.kept iio.old)) session.old.client }
+    requires there { dev < length (B.front (B.kept iio.old)).devices }
+    ensures manner { session.new.manner ≡ Server }
+    ensures kept { B.kept iio.new ≡ B.kept iio.old }
+    ensures client { IsClient B.seen (B.front (B.kept iio.new)) session.new.client }
+    ensures look { IfSome carried.new.look (λ l. l.dev < length (B.front (B.kept iio.new)).devices) }
+    ensures left { L.left link.new ≡ L.left link.old }
+    ensures faults { Faults result (L.faults link.old) (L.faults link.new) }
+    ensures sends { SendsOnce (B.front (B.kept iio.old)) (place_of B.seen (B.told iio.old) session.old) [] (L.written link.old)
+        (place_of B.seen (B.told iio.new) session.new) (L.written link.new) result }
+{
+    wait_for(iio, dev, carried.look);
+    carried.look = Some(look_at(iio, dev));
+    feed_and_send(alloc, session, iio, link, &[], &mut carried.out)
+}
+
 // Tries a READBUF that waits again, each time that its device's bell has rung, until nothing waits. The bell is looked at
 // before each try, so that a scan that comes between the try and the wait isn't slept through. If the bell wasn't looked at
 // before the first try, because another device was waited for last, the READBUF is tried once more before the wait.
@@ -128,9 +155,7 @@ fn settle<L: Link, B: Bells, R: Wait>(
             Going::Ended => return Err(SessionEnd::Ended),
             Going::Waits(dev) => dev,
         };
-        wait_for(iio, dev, carried.look);
-        carried.look = Some(look_at(iio, dev));
-        going = feed_and_send(alloc, session, iio, link, &[], &mut carried.out)?;
+        going = try_again(alloc, session, iio, link, carried, dev)?;
     }
     unreachable!()
 }
