@@ -1,3 +1,4 @@
+use Rattle.std.proofs.lemmas.Grind.{common_steps}
 use Rattle.std.proofs.Common.{◌≡◌, suc, ◌≤◌, length, Ok, Err, sym, ◌∙◌, w64, arith, add-one}
 use Rattle.std.proofs.lemmas.Int.{to_z-of_z}
 use Rattle.iio_device.specs.Sensing.{sense_result, channel_sensed, channels_sensed, begun}
@@ -41,3 +42,6 @@ loop-c-preserved g c =
       channels = c.sense_one.ensures.same ∙ c.loop-c.invariant.channels;
       all = c.loop-c.invariant.all;
     }
+
+pub overflow_add-count : goal.overflow_add-count
+overflow_add-count g c = grind (arith, common_steps)

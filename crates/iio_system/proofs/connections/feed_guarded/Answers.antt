@@ -1,4 +1,5 @@
-use Rattle.std.proofs.Common.{rules}
+use Rattle.std.proofs.Common.{rules, arith}
+use Rattle.std.proofs.lemmas.Grind.{common_steps, elements}
 use Rattle.iio_system.proofs.ApartLaws.{apart_same}
 use Rattle.iio_system.proofs.GuardedLaws.{meets_between}
 use Rattle.iio_system.proofs.PlayLaws.{front_kept, on_ok}
@@ -59,3 +60,9 @@ returns-clause-apart g c =
     (kept_between _ _ _ _ _ at c.feed_beside.new.connection _
     (written _ _ _ _ _ at c.args.connections.now.len c.feed_beside.new.connection (search rules)) c.feed_beside.ensures.name)
     c.requires.apart
+
+pub feed_beside-requires : goal.feed_beside-requires
+feed_beside-requires g c = grind (arith, elements)
+
+pub returns-clause-few : goal.returns-clause-few
+returns-clause-few g c = grind (arith, common_steps)

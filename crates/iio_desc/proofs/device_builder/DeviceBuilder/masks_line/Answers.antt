@@ -1,3 +1,4 @@
+use Rattle.std.proofs.lemmas.Grind.{common_steps}
 use Rattle.std.proofs.Common.{◌≡◌, length, arith}
 use Rattle.iio_text.specs.Words.{words_of, is_space}
 use Rattle.iio_desc.proofs.MaskLemmas.{All-masks_of}
@@ -18,3 +19,9 @@ invariant_of-self c =
       whole = c.self.invariant.whole;
       writes = c.self.invariant.writes;
     }
+
+pub returns-in_err-ensure-3-clause-line : goal.returns-in_err-ensure-3-clause-line
+returns-in_err-ensure-3-clause-line c = grind (arith, common_steps)
+
+pub returns-clause-line : goal.returns-clause-line
+returns-clause-line c = grind (arith, common_steps)

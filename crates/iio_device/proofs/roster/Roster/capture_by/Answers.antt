@@ -1,4 +1,5 @@
-use Rattle.std.proofs.Common.{rules, ◌≡◌, ap, ◌∙◌, length, take}
+use Rattle.std.proofs.lemmas.Grind.{common_steps}
+use Rattle.std.proofs.Common.{rules, ◌≡◌, ap, ◌∙◌, length, take, arith}
 use Rattle.std.proofs.lemmas.Int.{to_z-of_z}
 use Rattle.std.proofs.lemmas.List.Elements.{length_all_zip}
 use Rattle.iio_layout.specs.Laws.{length-values_by}
@@ -22,3 +23,6 @@ returns-clause-captures g c =
     let many : length roster.members.items ≡ length c.capture.new.self.members.items = length_all_zip _ _ _ zip in
     let len = c.len.ensures in
     (search rules, c.capture.ensures.rest, zip)
+
+pub invariant_of-self : goal.invariant_of-self
+invariant_of-self g c = grind (arith, common_steps)

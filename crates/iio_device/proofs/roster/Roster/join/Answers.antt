@@ -1,3 +1,4 @@
+use Rattle.std.proofs.lemmas.Grind.{common_steps}
 use Rattle.std.proofs.Common.{rules, ◌≡◌, ◌+◌, ◌<◌, ◌^◌, ◌-◌, ◌∷◌, [], length, Some, refl, ap, ◌∙◌, arith}
 use Rattle.std.proofs.lemmas.List.{length-append}
 use Rattle.iio_mask.specs.Mask.{union_of, union_of_all}
@@ -37,3 +38,6 @@ invariant_of-self g c =
       placed = search rules;
       united = rw c.push_reserved.ensures.items (c.union-self.ensures.value ∙ ap (union_of c.args.mask.bits) roster.united ∙ push_union roster.members.items m);
     }
+
+pub add_group-requires : goal.add_group-requires
+add_group-requires g c = grind (arith, common_steps)

@@ -1,4 +1,5 @@
-use Rattle.std.proofs.Common.{rules, ◌≡◌, ◌<◌, length, slice_index_or, option_map, unwrap_or, Some, sym, ap, ◌∙◌}
+use Rattle.std.proofs.lemmas.Grind.{common_steps}
+use Rattle.std.proofs.Common.{rules, ◌≡◌, ◌<◌, length, slice_index_or, option_map, unwrap_or, Some, sym, ap, ◌∙◌, arith}
 use Rattle.std.proofs.lemmas.List.Elements.{All-filter}
 use Rattle.iio_mask.specs.Mask.{union_of, union_of_all}
 use Rattle.iio_layout.specs.Active.{active_of}
@@ -101,3 +102,6 @@ returns g c =
           record (standing_of c.args.self.now) { active = active_under c.args.number c.args.mask.bits (standing_of c.args.self.now); members = ms } in z))
           (after ∙ ap (λ (s : Standing g.row.Q.Denot). remasked c.args.number c.args.mask s.captures c.args.tail s.members) stood),
     )
+
+pub add_group-requires : goal.add_group-requires
+add_group-requires g c = grind (arith, common_steps)

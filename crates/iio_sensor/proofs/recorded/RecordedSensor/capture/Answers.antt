@@ -1,5 +1,5 @@
 use Rattle.std.proofs.Common.{◌≡◌, ℕ, ℤ, List, refl, ap, ◌∙◌, arith}
-use Rattle.std.proofs.lemmas.Grind.{common_steps}
+use Rattle.std.proofs.lemmas.Grind.{common_steps, elements}
 use Rattle.std.specs.Int.{w64}
 use Rattle.std.proofs.lemmas.Int.{to_z-of_z}
 use Rattle.iio_mask.specs.declared.Mask.{Mask}
@@ -52,3 +52,6 @@ returns-then-is_for-clause-scan c =
 
 pub returns-then-is_for-clause-asked : goal.returns-then-is_for-clause-asked
 returns-then-is_for-clause-asked c = grind (arith, common_steps)
+
+pub returns-clause-asked : goal.returns-clause-asked
+returns-clause-asked c = grind (arith, elements)
